@@ -1,0 +1,4 @@
+pub mod Counts
+pub mod Moments
+pub mod Streams
+pub mod Views
