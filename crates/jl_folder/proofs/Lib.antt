@@ -1,0 +1,10 @@
+pub mod ChildLemmas
+pub mod DiskLemmas
+pub mod EmptyTree
+pub mod Looks
+pub mod MemoryLemmas
+pub mod Opens
+pub mod ReadingLemmas
+pub mod StateKept
+pub mod TableLemmas
+pub mod Traces

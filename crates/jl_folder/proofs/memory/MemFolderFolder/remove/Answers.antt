@@ -1,0 +1,38 @@
+use Rattle.std.proofs.Common.{arith, ◌≤◌, ◌-◌, ◌≡◌, ◌++◌, ℕ, [], ◌∷◌, length, take, drop, Bool, true, false, Option, None, Some, IsSome, is_some, sym, ◌∙◌, ap, subst, refl, inl, inr}
+use Rattle.std.proofs.lemmas.List.{take_all, append-nil}
+use Rattle.std.specs.Option.{option_copied}
+use Rattle.jl_folder.specs.declared.moves.Place.{Place}
+use Rattle.jl_folder.specs.declared.moves.Place.TheVariants.{Folder, File}
+use Rattle.jl_folder.specs.declared.moves.Move.{Move}
+use Rattle.jl_folder.specs.declared.moves.Move.TheVariants.{MakeDir, Create, Append, Rename, Remove, RemoveDir}
+use Rattle.jl_folder.specs.declared.moves.Node.{Node}
+use Rattle.jl_folder.specs.declared.moves.OpenFile.{OpenFile}
+use Rattle.jl_text.specs.Paths.{PathView, is_fixed, parent}
+use Rattle.jl_folder.specs.State.{State, Opens, Allowed, place_at, node_at, is_file, is_folder, has_parent, IsEmptyFolder, put_open, closed}
+use Rattle.jl_folder.specs.OpenTable.{opens_of}
+use Rattle.jl_folder.specs.Memory.{mem_state, mem_history}
+use Rattle.jl_folder.specs.Tables.{found, found_node}
+use Rattle.jl_folder.specs.Calls.{Call, ReadsPart, OpensNode, Creates, AppendsPart}
+use Rattle.jl_folder.proofs.TableLemmas.{not_some}
+use Rattle.jl_folder.proofs.MemoryLemmas.{call_none, call_made, put_here, told_open, open_put, open_closed, some_is, file_of_place, no_file, no_folder, sound_named, created_node}
+use Rattle.jl_folder.proofs.memory.MemFolderFolder.remove.Goals as goal
+
+pub returns-then-not-is_file-clause-call : goal.returns-then-not-is_file-clause-call
+returns-then-not-is_file-clause-call c = λ t.
+    let a = c.args.self.now in
+    let b = c.begin.new.self in
+    let told = c.begin.ensures.told t in
+    let i = c.begin.ensures.moved t in
+    call_none a b b _ i refl refl (ap (is_file (mem_state b)) (sym c.parts.ensures.same) ∙ sym (c.is_file.ensures told.disk) ∙ c.if-not-is_file.true, refl)
+
+pub returns-in-Ok-make-clause-call : goal.returns-in-Ok-make-clause-call
+returns-in-Ok-make-clause-call c = λ t.
+    let a = c.args.self.now in
+    let b = c.begin.new.self in
+    let told = c.begin.ensures.told t in
+    let i = c.begin.ensures.moved t in
+    let n = c.make.new.self in
+    let file : is_file (mem_state b) c.args.path.now ≡ true = ap (is_file (mem_state b)) (sym c.parts.ensures.same) ∙ sym (c.is_file.ensures told.disk) ∙ c.if-not-is_file.false in
+    let allowed : Allowed (mem_state b) (Remove c.in-Ok.copy) = subst (λ p. Allowed (mem_state b) (Remove p)) (sym c.in-Ok.ensures) file in
+    call_made a b n _ (Remove c.in-Ok.copy) i c.begin.ensures.token c.make.ensures.start c.in-Ok-make.ensures.made allowed
+    (file, ap (λ p. Some (Remove p)) c.in-Ok.ensures)

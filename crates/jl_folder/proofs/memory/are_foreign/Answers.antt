@@ -1,0 +1,15 @@
+use Rattle.std.proofs.Common.{All, take, sym, ◌∙◌, ap, subst}
+use Rattle.std.proofs.lemmas.List.{take_all}
+use Rattle.std.proofs.lemmas.List.Elements.{All-more}
+use Rattle.jl_folder.specs.State.{IsForeign}
+use Rattle.jl_folder.proofs.memory.are_foreign.Goals as goal
+
+pub loop-group-preserved : goal.loop-group-preserved
+loop-group-preserved c =
+    let token = c.args.token.now in
+    let x = c.group-item.result in
+    All-more (λ o. IsForeign token o.1.items) c.args.others.now c.loop-group.group-index x c.loop-group-test.true c.loop-group.invariant
+    (subst (λ o. IsForeign token o.1.items) c.group-item.is (subst (IsForeign token) c.as_slice.ensures.value (c.has_own_move.ensures c.if-has_own_move.false)))
+
+pub returns : goal.returns
+returns c = λ _. subst (All (λ o. IsForeign c.args.token.now o.1.items)) (take_all c.loop-group.group-index c.args.others.now c.loop-group-test.false) c.loop-group.invariant

@@ -1,0 +1,19 @@
+use Rattle.std.proofs.Common.{◌≡◌, suc, ◌∷◌, drop, sym, ◌∙◌, ap, subst, true≢false, add-one}
+use Rattle.std.proofs.Math.Seq.{drop-cons}
+use Rattle.std.proofs.lemmas.List.{drop_all}
+use Rattle.std.proofs.lemmas.Slice.Eq.{bytes_eq-Decides}
+use Rattle.jl_folder.specs.State.{IsForeign}
+use Rattle.jl_folder.proofs.memory.has_own_move.Goals as goal
+
+pub loop-entry-preserved : goal.loop-entry-preserved
+loop-entry-preserved c = λ rest.
+    let moves = c.args.moves.now in
+    let token = c.args.token.now in
+    let i = c.loop-entry.entry-index in
+    let x = c.entry-item.result in
+    let here : drop i moves ≡ x ∷ drop (suc i) moves = drop-cons moves i x c.loop-entry-test.true ∙ ap (λ y. y ∷ drop (suc i) moves) (sym c.entry-item.is) in
+    let later : IsForeign token (drop (suc i) moves) = subst (λ k. IsForeign token (drop k moves)) (add-one i) rest in
+    c.loop-entry.invariant (subst (IsForeign token) (sym here) ((λ same. true≢false (sym ((bytes_eq-Decides x.0 token).1 same) ∙ sym c.eq.ensures ∙ c.if-eq.false)), later))
+
+pub returns : goal.returns
+returns c = λ _. c.loop-entry.invariant (subst (IsForeign c.args.token.now) (sym (drop_all c.loop-entry.entry-index c.args.moves.now c.loop-entry-test.false)) tt)

@@ -1,0 +1,13 @@
+pub mod Calls
+pub mod Children
+pub mod Disk
+pub mod Listing
+pub mod Looks
+pub mod Memory
+pub mod OpenTable
+pub mod Reading
+pub mod State
+pub mod Tables
+pub mod Trees
+pub use Rattle.jl_text.specs.Paths
+pub use Rattle.jl_text.specs.Texts
