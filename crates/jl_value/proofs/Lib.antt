@@ -1,0 +1,9 @@
+pub mod Texts
+pub mod Trips
+pub mod Keys
+pub mod Heights
+pub mod Walks
+pub mod Utf8
+pub mod Nests
+pub mod Lengths
+pub mod TinyLemmas

@@ -1,0 +1,17 @@
+pub mod Tree
+pub mod Codes
+pub mod Form
+pub mod Falls
+pub mod Canonical
+pub mod Reading
+pub mod Proper
+pub mod Tokens
+pub mod Key
+pub mod Walked
+pub mod Library
+pub mod Told
+pub mod Names
+pub mod Tiny
+pub mod TinyLaws
+pub mod Same
+pub mod Sameness
