@@ -1,0 +1,12 @@
+pub mod Signs
+pub mod Words
+pub mod Grammar
+pub mod Shapes
+pub mod Lines
+pub mod Modules
+pub mod Checks
+pub mod Meaning
+pub mod Runs
+pub mod Outcomes
+pub mod ModuleLaws
+pub mod AnswerLaws
