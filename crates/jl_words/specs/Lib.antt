@@ -1,0 +1,2 @@
+pub mod ModuleNames
+pub mod Settings
