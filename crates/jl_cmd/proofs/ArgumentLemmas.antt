@@ -1,0 +1,43 @@
+-- What the arguments of a text are, by the steps of their reading.
+use Rattle.std.proofs.Common.{◌≡◌, ◌≢◌, ◌∙◌, ℕ, ◌<◌, ◌≤◌, List, [], ◌∷◌, length, Ok, Err, refl, ap, cond, if◌then◌else◌, nat_lt}
+use Rattle.std.proofs.lemmas.Bool.{lt-ltb, le-ltb}
+use Rattle.jl_value.specs.declared.fault.ValueFault.{ValueFault}
+use Rattle.jl_value.specs.declared.fault.ValueFault.TheVariants as value
+use Rattle.jl_value.specs.declared.value.Value.{Value}
+use Rattle.jl_value.specs.declared.value.Value.TheVariants.{Null, Truth, Whole, Text, List as Listed, Table, Numbers}
+use Rattle.jl_value.specs.Tree.{Tree, members_of, pairs_of}
+use Rattle.jl_value.specs.Form.{tree_of}
+use Rattle.jl_value.specs.Walked.{read_bytes}
+use Rattle.jl_cmd.specs.declared.arguments.ArgumentsFault.{ArgumentsFault}
+use Rattle.jl_cmd.specs.declared.arguments.ArgumentsFault.TheVariants.{TooLong, NotTable, Memory}
+use Rattle.jl_cmd.specs.Arguments.{arguments_of, table_in, members_in, fault_of}
+
+pub arguments_of-long : (s : List ℕ) → 1048576 < length s → arguments_of s ≡ Err TooLong
+unfolding arguments_of
+arguments_of-long s h = ap (λ b. if b then Err TooLong else table_in (read_bytes 64 s)) (lt-ltb _ _ h)
+
+pub arguments_of-short : (s : List ℕ) → length s ≤ 1048576 → arguments_of s ≡ table_in (read_bytes 64 s)
+unfolding arguments_of
+arguments_of-short s h = ap (λ b. if b then Err TooLong else table_in (read_bytes 64 s)) (le-ltb _ _ h)
+
+pub pairs_of-members_of : (ps : List (List ℕ × Tree)) → pairs_of (members_of ps) ≡ ps
+pairs_of-members_of [] = refl
+pairs_of-members_of (p ∷ ps) = ap (λ qs. (p.0, p.1) ∷ qs) (pairs_of-members_of ps)
+
+-- a table gives its members
+pub table_in-table : (v : Value) (ps : List (List ℕ × Tree)) → v ≡ Table ps → members_in (tree_of v) ≡ Ok (pairs_of (members_of ps))
+table_in-table v ps e = ap (λ u. members_in (tree_of u)) e
+
+-- another value gives none
+pub members_in-other : (v : Value) → ((ps : List (List ℕ × Tree)) → v ≡ Table ps → ⊥) → members_in (tree_of v) ≡ Err NotTable
+members_in-other Null h = refl
+members_in-other (Truth b) h = refl
+members_in-other (Whole z) h = refl
+members_in-other (Text s) h = refl
+members_in-other (Listed ts) h = refl
+members_in-other (Table ps) h = absurd (h ps refl)
+members_in-other (Numbers zs) h = refl
+
+-- only want of memory is told as such
+pub fault_of-memory : (e : ValueFault) → fault_of e ≢ Memory → e ≢ value.Memory
+fault_of-memory e h same = h (ap fault_of same)

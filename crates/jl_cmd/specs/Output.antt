@@ -1,0 +1,96 @@
+-- What a run writes and its status, where nothing fails: no fault, no want of memory.
+use Rattle.std.specs.Prelude.{ℕ, List, [], ◌∷◌, ◌++◌, length, Option, Some, None, Result, Ok, Err, if◌then◌else◌, nat_lt, codes}
+use Rattle.std.specs.Fmt.{decimal}
+use Rattle.jl_text.specs.Paths.{PathView}
+use Rattle.jl_value.specs.declared.library.TaskError.{TaskError}
+use Rattle.jl_value.specs.declared.library.ModuleFault.{ModuleFault}
+use Rattle.jl_value.specs.declared.library.ModuleFaultKind.TheVariants as module_fault
+use Rattle.jl_value.specs.Tree.{Tree}
+use Rattle.hex.specs.Hex.{encode_lower}
+use Rattle.jl_value.specs.Canonical.{text_of}
+use Rattle.jl_value.specs.Key.{key_of}
+use Rattle.jl_value.specs.Library.{Answer, value, error}
+use Rattle.jl_words.specs.declared.types.Settings.{Settings}
+use Rattle.jl_words.specs.declared.types.Settings.TheVariants.{Call, Hash}
+use Rattle.jl_cmd.specs.declared.arguments.ArgumentsFault.{ArgumentsFault}
+use Rattle.jl_cmd.specs.declared.arguments.ArgumentsFault.TheVariants.{UnknownFunction}
+use Rattle.jl_cmd.specs.Arguments.{arguments_of}
+use Rattle.jl_cmd.specs.Statuses as status
+use Rattle.jl_value.specs.Names.{name_of, fault_name_of}
+use Rattle.jl_cmd.specs.Texts.{why, error_line}
+
+-- the bytes on standard output, the exit status, and the last text on the error stream
+pub record Output : Type 0 where
+  pub bytes : List ℕ
+  pub status : ℕ
+  pub text : List ℕ
+
+-- a value: its canonical text and a newline
+abbrev pub prints : Tree → Output
+prints t = record { bytes = text_of t ++ 10 ∷ []; status = status.done; text = [] }
+
+-- a task that failed, by its number from 0
+abbrev pub fails : ℕ → TaskError → Output
+fails i e = record { bytes = []; status = status.task_error; text = error_line (codes "task " ++ (decimal i ++ (codes ": " ++ name_of e))) }
+
+abbrev pub refuses_module : ModuleFault → Output
+refuses_module f = record { bytes = []; status = status.refused; text = error_line (codes "module line " ++ (decimal f.line ++ (codes ": " ++ fault_name_of f.kind))) }
+
+abbrev pub refuses_arguments : ArgumentsFault → Output
+refuses_arguments e = record { bytes = []; status = status.refused; text = error_line (codes "arguments: " ++ why e) }
+
+abbrev pub answers : Answer → Output
+answers (value t) = prints t
+answers (error e) = fails 0 e
+
+-- what a function answers on what was read of its arguments
+abbrev pub applied : (List (List ℕ × Tree) → Answer) → Result (List (List ℕ × Tree)) ArgumentsFault → Output
+applied f (Ok args) = answers (f args)
+applied f (Err e) = refuses_arguments e
+
+-- a call of the function with this code: an unknown function is refused before the arguments are read
+abbrev pub called : (List ℕ → List (List ℕ × Tree) → Answer) → Option (List ℕ) → List ℕ → Output
+called answer None args = refuses_arguments UnknownFunction
+called answer (Some c) args = applied (answer c) (arguments_of args)
+
+-- a module with this fault, if any
+abbrev pub read_module : Option ModuleFault → Output → Output
+read_module (Some f) then' = refuses_module f
+read_module None then' = then'
+
+abbrev pub too_large : ModuleFault
+too_large = record { line = 1; kind = module_fault.TooLarge }
+
+-- the fault of a module's bytes: it is too large, or what the library says
+abbrev pub module_fault_of : (List ℕ → Option ModuleFault) → List ℕ → Option ModuleFault
+module_fault_of fault m = if nat_lt 1048576 (length m) then Some too_large else fault m
+
+-- `call`: the module's bytes, the function's name and the text of the arguments, over a library's meanings
+abbrev pub call_output : (code : List ℕ → List ℕ → Option (List ℕ)) → (List ℕ → Option ModuleFault) → (List ℕ → List (List ℕ × Tree) → Answer) → List ℕ → List ℕ → List ℕ → Output
+call_output code fault answer m name args = read_module (module_fault_of fault m) (called answer (code m name) args)
+
+-- `hash`: the key of the arguments, as 32 digits, and a newline
+abbrev pub prints_key : List (List ℕ × Tree) → Output
+prints_key args = record { bytes = encode_lower (key_of args) ++ 10 ∷ []; status = status.done; text = [] }
+
+abbrev pub hashed : Result (List (List ℕ × Tree)) ArgumentsFault → Output
+hashed (Ok args) = prints_key args
+hashed (Err e) = refuses_arguments e
+
+abbrev pub hash_output : List ℕ → Output
+hash_output args = hashed (arguments_of args)
+
+-- the module file of a command, where it reads one
+abbrev pub module_of : Settings → Option PathView
+module_of (Call file location name args) = Some file
+module_of (Hash args) = None
+
+-- whether a command calls a function
+abbrev pub IsCalling : Settings → Type 0
+IsCalling (Call file location name args) = Unit {0}
+IsCalling (Hash args) = ⊥
+
+-- what the settings and the bytes of the module file give
+abbrev pub output_of : (code : List ℕ → List ℕ → Option (List ℕ)) → (List ℕ → Option ModuleFault) → (List ℕ → List (List ℕ × Tree) → Answer) → Settings → List ℕ → Output
+output_of code fault answer (Call file location name args) m = call_output code fault answer m name args
+output_of code fault answer (Hash args) m = hash_output args

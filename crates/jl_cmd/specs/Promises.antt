@@ -1,0 +1,63 @@
+-- What a run promises, by its exit status.
+use Rattle.std.specs.Prelude.{◌≡◌, ◌⊎◌, ℕ, List, [], ◌++◌, Option, Bool, false, if◌then◌else◌, nat_eq, codes}
+use Rattle.jl_text.specs.Paths.{PathView}
+use Rattle.jl_folder.specs.State.{is_file, AtSome}
+use Rattle.jl_streams.specs.Counts.{Rose}
+use Rattle.jl_streams.specs.Streams.{WritesPrefix}
+use Rattle.jl_value.specs.Library.{next_count}
+use Rattle.jl_cmd.specs.Output.{Output}
+use Rattle.jl_cmd.specs.Endings.{Scene, ReadsModule}
+use Rattle.jl_cmd.specs.Statuses as status
+use Rattle.jl_cmd.specs.Texts.{error_line}
+
+-- the statuses at which the whole output of a command stands: done, a task error, refused input
+abbrev pub IsWhole : ℕ → Type 0
+IsWhole n = (n ≡ status.done) ⊎ ((n ≡ status.task_error) ⊎ (n ≡ status.refused))
+
+-- the statuses at which nothing was written
+abbrev pub IsSilent : ℕ → Type 0
+IsSilent n = (n ≡ status.usage) ⊎ ((n ≡ status.no_memory) ⊎ ((n ≡ status.no_module) ⊎ (n ≡ status.folder_fault)))
+
+-- every status that a run may have
+abbrev pub IsStatus : ℕ → Type 0
+IsStatus n = IsWhole n ⊎ (IsSilent n ⊎ (n ≡ status.write_fault))
+
+-- the statuses at which the function was called
+abbrev pub IsCalled : ℕ → Type 0
+IsCalled n = (n ≡ status.done) ⊎ ((n ≡ status.task_error) ⊎ (n ≡ status.write_fault))
+
+-- the statuses at which it was not
+abbrev pub IsUncalled : ℕ → Type 0
+IsUncalled n = (n ≡ status.usage) ⊎ ((n ≡ status.refused) ⊎ ((n ≡ status.no_module) ⊎ (n ≡ status.folder_fault)))
+
+-- the last text on the error stream at a status that has one text alone
+abbrev pub text_of_status : ℕ → List ℕ
+text_of_status n =
+    if nat_eq n status.usage then error_line (codes "usage") else
+    (if nat_eq n status.write_fault then error_line (codes "write fault") else
+    (if nat_eq n status.no_memory then error_line (codes "out of memory") else
+    (if nat_eq n status.no_module then error_line (codes "no module") else
+    error_line (codes "folder fault"))))
+
+-- the output is that of the module's bytes as this run read them: its bytes, its status and its last text
+pub record Answers (output : List ℕ → Output) (path : Option PathView) (folder_tells out_tells err_clear : Type 0) (x : Scene) (errors errors' : List ℕ) (n : ℕ) : Type 0 where
+  pub bytes : List ℕ
+  pub reads : folder_tells → ReadsModule path bytes x
+  pub status : (output bytes).status ≡ n
+  pub written : out_tells → x.written' ≡ x.written ++ (output bytes).bytes
+  pub text : err_clear → errors' ≡ errors ++ (output bytes).text
+
+-- a front of that output was written, and the output failed
+pub record AnswersFront (output : List ℕ → Output) (path : Option PathView) (folder_tells out_tells : Type 0) (x : Scene) : Type 0 where
+  pub bytes : List ℕ
+  pub reads : folder_tells → ReadsModule path bytes x
+  pub status : (output bytes).status ≡ status.done
+  pub rose : Rose x.out_faults x.out_faults'
+  pub front : out_tells → WritesPrefix (output bytes).bytes x.written x.written'
+
+-- the library's count of calls: it rises by one exactly where a function was called, and by no more for want of memory
+pub record CountsCalls (calling : Type 0) (n : ℕ) (calls calls' : ℕ) : Type 0 where
+  pub called : calling → IsCalled n → calls' ≡ next_count calls
+  pub uncalled : IsUncalled n → calls' ≡ calls
+  pub idle : (calling → ⊥) → calls' ≡ calls
+  pub most : (calls' ≡ calls) ⊎ (calls' ≡ next_count calls)

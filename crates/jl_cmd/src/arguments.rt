@@ -1,0 +1,67 @@
+// Reads the arguments of a call.
+ghost use Rattle.std.specs.Prelude.{◌≡◌, ◌≢◌, IfOk, IfErr, Ok, Err};
+ghost use Rattle.jl_value.specs.Key.{args_tree};
+ghost use Rattle.jl_value.specs.Proper.{IsProper};
+ghost use Rattle.jl_cmd.specs.declared.arguments.ArgumentsFault.TheVariants.{Memory};
+ghost use Rattle.jl_cmd.specs.Arguments.{arguments_of, fault_of as fault_of_lem};
+
+use jl_value::{Args, ValueFault, read_value};
+use std::alloc::Global;
+use thiserror::Error;
+
+/// Why arguments are refused.
+#[derive(Clone, Copy, Debug, PartialEq, Eq, Error)]
+pub enum ArgumentsFault {
+    #[error("unknown function")]
+    UnknownFunction,
+    #[error("too long")]
+    TooLong,
+    #[error("not JSON")]
+    NotJson,
+    #[error("not a whole number")]
+    NotWhole,
+    #[error("bad array")]
+    BadArray,
+    #[error("too deep")]
+    TooDeep,
+    #[error("not a table")]
+    NotTable,
+    #[error("out of memory")]
+    Memory,
+}
+
+// The bytes of a text of arguments, at most.
+const LIMIT: usize = 1_048_576;
+
+// How deep the lists and tables of arguments may nest.
+const DEPTH: u32 = 64;
+
+fn fault_of(fault: ValueFault) -> ArgumentsFault
+    ensures { result ≡ fault_of_lem fault }
+{
+    match fault {
+        ValueFault::NotJson => ArgumentsFault::NotJson,
+        ValueFault::TooDeep => ArgumentsFault::TooDeep,
+        ValueFault::BadArray => ArgumentsFault::BadArray,
+        ValueFault::NotWhole => ArgumentsFault::NotWhole,
+        ValueFault::Memory => ArgumentsFault::Memory,
+    }
+}
+
+/// The arguments that a text gives.
+pub fn read_arguments(alloc: Global, text: &str) -> Result<Args, ArgumentsFault>
+    ensures given { IfOk result (λ a. arguments_of text.now ≡ Ok a) }
+    ensures proper { IfOk result (λ a. IsProper (args_tree a)) }
+    ensures fault { IfErr result (λ e. e ≢ Memory → arguments_of text.now ≡ Err e) }
+{
+    if text.len() > LIMIT {
+        return Err(ArgumentsFault::TooLong);
+    }
+    match read_value(alloc, text.as_bytes(), DEPTH) {
+        Ok(value) => match Args::from_value(value) {
+            Ok(args) => Ok(args),
+            Err(_) => Err(ArgumentsFault::NotTable),
+        },
+        Err(fault) => Err(fault_of(fault)),
+    }
+}
