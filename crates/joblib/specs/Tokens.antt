@@ -1,0 +1,31 @@
+-- The token of a run: what a first word gives, else the environment, else the moment.
+use Rattle.std.specs.Prelude.{◌≡◌, ℕ, List, ◌∷◌, ◌++◌, Option, None, Some, IsTrue, codes, false, ◌&&◌, nat_le, length, if◌then◌else◌}
+use Rattle.std.specs.Fmt.{digits}
+use Rattle.jl_text.specs.Texts.{is_token}
+
+-- how a word that gives a token begins
+abbrev pub token_flag : List ℕ
+token_flag = codes "--token="
+
+-- the word gives this token
+pub record GivesToken (word token : List ℕ) : Type 0 where
+  pub flag : word ≡ token_flag ++ token
+  pub form : IsTrue (is_token token)
+
+-- the word gives none
+abbrev pub GivesNone : List ℕ → Type 0
+GivesNone word = (token : List ℕ) → GivesToken word token → ⊥
+
+-- `t` and the moment, in lower-case hexadecimal
+abbrev pub moment_token : ℕ → List ℕ
+moment_token moment = 116 ∷ digits 16 false moment
+
+-- the variable's text, where it is a token of at most 36, or else this
+abbrev pub variable_or : List ℕ → Option (List ℕ) → List ℕ
+variable_or token None = token
+variable_or token (Some text) = if is_token text && nat_le (length text) 36 then text else token
+
+-- the token that was given, else the variable's, else the moment's
+abbrev pub token_of : Option (List ℕ) → Option (List ℕ) → ℕ → List ℕ
+token_of (Some token) variable moment = token
+token_of None variable moment = variable_or (moment_token moment) variable

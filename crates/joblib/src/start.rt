@@ -1,0 +1,146 @@
+// From the words and the environment to a run.
+ghost use Rattle.std.specs.Prelude.{◌≡◌, ◌≤◌};
+
+use crate::real_folder::RealFolder;
+use crate::real_host::{RealHost, moment_of};
+use crate::token::{choose_token, given_token, own_words};
+use jl_cmd::run;
+use jl_lang::Lang;
+use jl_streams::{Sink, Source, write_all};
+use jl_text::Token;
+use std::alloc::AllocError;
+use std::env;
+use std::env::{Env, VarError};
+use std::fs::File;
+use std::io::ErrorKind;
+use std::rt::Files;
+use std::time::Clock;
+
+// Why nothing is run.
+#[derive(Clone, Copy, Debug, PartialEq, Eq)]
+enum StartFault {
+    Usage,
+    Memory,
+}
+
+impl StartFault {
+    // The line on the standard error.
+    fn text(&self) -> &'static str {
+        match self {
+            StartFault::Usage => "error: usage\n",
+            StartFault::Memory => "error: out of memory\n",
+        }
+    }
+
+    // The exit status.
+    fn status(&self) -> u8 {
+        match self {
+            StartFault::Usage => 2,
+            StartFault::Memory => 8,
+        }
+    }
+}
+
+// The words behind the program's name. One that is not UTF-8 is wrong usage.
+fn words_of<R: Env + AllocGlobal>(rt: &R) -> Result<Vec<String>, StartFault> {
+    let mut args = match env::args(rt) {
+        Ok(args) => args,
+        Err(e) if e.kind() == ErrorKind::OutOfMemory => return Err(StartFault::Memory),
+        Err(_) => return Err(StartFault::Usage),
+    };
+    let _name = args.next();
+    let mut words = Vec::new(rt.alloc());
+    for word in args {
+        if words.push(word).is_err() {
+            return Err(StartFault::Memory);
+        }
+    }
+    Ok(words)
+}
+
+// What the environment gives as a token.
+fn variable_of<R: Env + AllocGlobal>(rt: &R) -> Result<Option<String>, AllocError> {
+    match env::var(rt, "JOBLIB_TOKEN") {
+        Ok(text) => Ok(Some(text)),
+        Err(VarError::OutOfMemory) => Err(AllocError),
+        Err(_) => Ok(None),
+    }
+}
+
+// The token that the first word gives.
+fn first_token<R: AllocGlobal>(rt: &R, words: &[String]) -> Result<Option<Token>, AllocError> {
+    match words.first() {
+        Some(word) => given_token(rt.alloc(), word.as_str()),
+        None => Ok(None),
+    }
+}
+
+// The token of this run.
+fn token_of<R: Env + Clock + AllocGlobal>(
+    rt: &R,
+    given: Option<Token>,
+) -> Result<Token, AllocError> {
+    let variable = variable_of(rt)?;
+    let text = match &variable {
+        Some(text) => Some(text.as_str()),
+        None => None,
+    };
+    choose_token(rt.alloc(), given, text, moment_of(rt).unwrap_or(0))
+}
+
+// Runs the words over the system's files.
+fn run_words<R, S, O, E>(
+    rt: R,
+    processors: u32,
+    words: &[String],
+    input: &mut S,
+    out: &mut O,
+    err: &mut E,
+) -> Result<u8, AllocError>
+where
+    R: Files<File = File> + Env + Clock + AllocGlobal + Copy + Drop,
+    S: Source,
+    O: Sink,
+    E: Sink,
+    requires least { 1 ≤ processors }
+    requires most { processors ≤ 1024 }
+{
+    let given = first_token(&rt, words)?;
+    let own = own_words(words, given.is_some());
+    let token = token_of(&rt, given)?;
+    let twin = token.copy()?;
+    let mut lib = Lang::new(rt.alloc());
+    let mut folder = RealFolder::new(rt, twin);
+    let mut host = RealHost::new(rt, processors, token);
+    Ok(run(
+        rt.alloc(),
+        own,
+        &mut lib,
+        &mut folder,
+        input,
+        out,
+        err,
+        &mut host,
+    ))
+}
+
+/// Runs the program's own words. Answers the exit status.
+pub fn start<R, S, O, E>(rt: R, processors: u32, input: &mut S, out: &mut O, err: &mut E) -> u8
+where
+    R: Files<File = File> + Env + Clock + AllocGlobal + Copy + Drop,
+    S: Source,
+    O: Sink,
+    E: Sink,
+    requires least { 1 ≤ processors }
+    requires most { processors ≤ 1024 }
+{
+    let fault = match words_of(&rt) {
+        Ok(words) => match run_words(rt, processors, words.as_slice(), input, out, err) {
+            Ok(status) => return status,
+            Err(_) => StartFault::Memory,
+        },
+        Err(fault) => fault,
+    };
+    let _told = write_all(err, fault.text().as_bytes());
+    fault.status()
+}
