@@ -1,0 +1,7 @@
+pub mod Completeness
+pub mod DigitLemmas
+pub mod Division
+pub mod LevelLemmas
+pub mod NegationLemmas
+pub mod Soundness
+pub mod TextLemmas

@@ -1,0 +1,29 @@
+use Rattle.std.proofs.Common.{List, ℕ, sym, subst, ◌∙◌}
+use Rattle.std.specs.Prelude.{pos}
+use Rattle.jl_batch.proofs.TextLemmas.{Follows, no_front, no_step, finish_found, finish_only, follows_next, empty_rest, some_rest}
+use Rattle.jl_batch.proofs.pre_dispatch.run_text.Goals as goal
+
+pub returns-in_err-sign-clause-only : goal.returns-in_err-sign-clause-only
+returns-in_err-sign-clause-only c = λ ss h.
+    c.from_residual.ensures ∙ no_front (pos c.args.jobs) c.args.text.now c.signs.left.now c.signs.reader c.signs.invariant c.in_err-sign.ensures.sign ss h
+
+pub returns-in_err-reader-clause-only : goal.returns-in_err-reader-clause-only
+returns-in_err-reader-clause-only c = λ ss h.
+    c.from_residual-in_err-reader.ensures ∙ no_step (pos c.args.jobs) c.args.text.now c.signs.left.now c.signs.reader c.in_ok-sign.sign c.in_ok-sign.rest.now c.signs.invariant c.in_ok-sign.ensures.sign (sym c.in_err-reader.ensures) ss h
+
+pub returns-then-is_empty-clause-some : goal.returns-then-is_empty-clause-some
+returns-then-is_empty-clause-some c =
+    finish_found (pos c.args.jobs) c.args.text.now c.signs.left.now c.signs.reader c.in_ok-reader.reader c.in_ok-sign.sign c.in_ok-sign.rest.now c.signs.invariant c.in_ok-sign.ensures.sign
+    (empty_rest c.in_ok-sign.rest.now (sym c.if-is_empty.true ∙ c.is_empty.ensures)) (sym c.in_ok-reader.ensures) c.finish.result c.finish.ensures
+
+pub returns-then-is_empty-clause-only : goal.returns-then-is_empty-clause-only
+returns-then-is_empty-clause-only c = λ ss h.
+    c.finish.ensures ∙ finish_only (pos c.args.jobs) c.args.text.now c.signs.left.now c.signs.reader c.in_ok-reader.reader c.in_ok-sign.sign c.in_ok-sign.rest.now c.signs.invariant c.in_ok-sign.ensures.sign
+    (empty_rest c.in_ok-sign.rest.now (sym c.if-is_empty.true ∙ c.is_empty.ensures)) (sym c.in_ok-reader.ensures) ss h
+
+pub signs-preserved : goal.signs-preserved
+signs-preserved c =
+    let P : List ℕ → Type 0 = λ q. Follows (pos c.args.jobs) c.args.text.now q c.in_ok-reader.reader in
+    subst P (sym c.without_blanks-left.ensures.rest)
+    (follows_next (pos c.args.jobs) c.args.text.now c.signs.left.now c.signs.reader c.in_ok-reader.reader c.in_ok-sign.sign c.in_ok-sign.rest.now c.signs.invariant c.in_ok-sign.ensures.sign
+    (some_rest c.in_ok-sign.rest.now (sym c.if-is_empty.false ∙ c.is_empty.ensures)) (sym c.in_ok-reader.ensures))

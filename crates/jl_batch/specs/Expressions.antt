@@ -1,0 +1,53 @@
+-- Expressions as trees, what they are worth, and which signs spell them.
+use Rattle.std.specs.Prelude.{◌≡◌, ℕ, zero, suc, true, false, ℤ, List, [], ◌∷◌, ◌++◌, Option, Some, None, option_and_then}
+use lib.IntN.{neg_ℤ}
+use Rattle.jl_batch.specs.declared.arithmetic.Operator.{Operator}
+use Rattle.jl_batch.specs.declared.arithmetic.Operator.TheVariants.{Minus}
+use Rattle.jl_batch.specs.declared.signs.Sign.{Sign}
+use Rattle.jl_batch.specs.declared.signs.Sign.TheVariants.{Whole, Jobs, Infix, Opening, Closing}
+use Rattle.jl_batch.specs.Arithmetic.{within_64, applied, is_tight}
+
+-- an expression, as a tree
+pub data Expression : Type 0 where
+  whole : ℤ → Expression
+  jobs : Expression
+  negation : Expression → Expression
+  operation : Operator → Expression → Expression → Expression
+
+-- an operator's value, where both sides have one
+abbrev pub applied_to : Operator → Option ℤ → Option ℤ → Option ℤ
+applied_to op None y = None
+applied_to op (Some x) None = None
+applied_to op (Some x) (Some y) = applied op x y
+
+-- what an expression is worth at a number of jobs; each value in it is one of 64 bits
+abbrev pub value_of : ℤ → Expression → Option ℤ
+value_of n (whole z) = Some z
+value_of n jobs = Some n
+value_of n (negation e) = option_and_then (λ x. within_64 (neg_ℤ x)) (value_of n e)
+value_of n (operation op a b) = applied_to op (value_of n a) (value_of n b)
+
+pub data Kind : Type 0 where
+  a_factor : Kind
+  a_term : Kind
+  a_sum : Kind
+
+-- which signs spell an expression of a kind, with brackets and minus signs nested at most so deep:
+--   sum    := term { ("+" | "-") term }
+--   term   := factor { ("*" | "//" | "%") factor }
+--   factor := whole | "n_jobs" | "(" sum ")" | "-" factor
+-- where operators of one level bind from the left
+pub data Spells : Kind → ℕ → List Sign → Expression → Type 0 where
+  number : {depth : ℕ} {z : ℤ} → Spells a_factor depth (Whole z ∷ []) (whole z)
+  name : {depth : ℕ} → Spells a_factor depth (Jobs ∷ []) jobs
+  bracket : {depth : ℕ} {ss : List Sign} {e : Expression} → Spells a_sum depth ss e → Spells a_factor (suc depth) (Opening ∷ (ss ++ Closing ∷ [])) e
+  minus : {depth : ℕ} {ss : List Sign} {e : Expression} → Spells a_factor depth ss e → Spells a_factor (suc depth) (Infix Minus ∷ ss) (negation e)
+  factor : {depth : ℕ} {ss : List Sign} {e : Expression} → Spells a_factor depth ss e → Spells a_term depth ss e
+  product : {depth : ℕ} {ss ts : List Sign} {a b : Expression} {op : Operator} → Spells a_term depth ss a → is_tight op ≡ true → Spells a_factor depth ts b → Spells a_term depth (ss ++ Infix op ∷ ts) (operation op a b)
+  term : {depth : ℕ} {ss : List Sign} {e : Expression} → Spells a_term depth ss e → Spells a_sum depth ss e
+  sum : {depth : ℕ} {ss ts : List Sign} {a b : Expression} {op : Operator} → Spells a_sum depth ss a → is_tight op ≡ false → Spells a_term depth ts b → Spells a_sum depth (ss ++ Infix op ∷ ts) (operation op a b)
+
+-- minus signs, one after the other
+abbrev pub negated : ℕ → ℤ → Option ℤ
+negated zero x = Some x
+negated (suc n) x = option_and_then (negated n) (within_64 (neg_ℤ x))

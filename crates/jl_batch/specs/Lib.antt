@@ -1,0 +1,9 @@
+pub mod Arithmetic
+pub mod Expressions
+pub mod Jobs
+pub mod Levels
+pub mod Machine
+pub mod Rooms
+pub mod Signs
+pub mod Sizes
+pub mod Windows

@@ -1,0 +1,31 @@
+-- The window that a text asks for.
+use Rattle.std.specs.Prelude.{◌≡◌, ◌≢◌, ℕ, ℤ, pos, int_lt, if◌then◌else◌, unsigned_abs, min, List, [], ◌∷◌, Result, Ok, Err, Some}
+use Rattle.jl_batch.specs.declared.window.Window.{Window}
+use Rattle.jl_batch.specs.declared.window.Window.TheVariants.{All, Tasks}
+use Rattle.jl_batch.specs.declared.pre_dispatch.PreDispatchFault.{PreDispatchFault}
+use Rattle.jl_batch.specs.declared.pre_dispatch.PreDispatchFault.TheVariants.{BadExpression, BelowOne}
+use Rattle.jl_batch.specs.declared.signs.Sign.{Sign}
+use Rattle.jl_batch.specs.Signs.{HasSigns}
+use Rattle.jl_batch.specs.Expressions.{Expression, Spells, a_sum, value_of}
+
+-- `all`
+unfoldable pub all_word : List ℕ
+all_word = 97 ∷ 108 ∷ 108 ∷ []
+
+-- a text is an expression in which brackets and minus signs nest at most 32 deep, worth v at this number of jobs
+abbrev pub IsWorth : List ℕ → ℕ → ℤ → Type 0
+IsWorth text jobs v = (ss : List Sign) × (e : Expression) × HasSigns text ss × Spells a_sum 32 ss e × (value_of (pos jobs) e ≡ Some v)
+
+-- what a value asks for: one task at least, and above 1,000,000 as many
+abbrev pub window_at : ℤ → Result Window PreDispatchFault
+window_at v = if int_lt v (pos 1) then Err BelowOne else Ok (Tasks (min (unsigned_abs v) 1000000))
+
+-- a window that the text asks for
+abbrev pub IsAskedFor : List ℕ → ℕ → Window → Type 0
+IsAskedFor text jobs All = text ≡ all_word
+IsAskedFor text jobs (Tasks n) = (v : ℤ) × IsWorth text jobs v × (window_at v ≡ Ok (Tasks n))
+
+-- why a text asks for no window
+abbrev pub IsFaulty : List ℕ → ℕ → PreDispatchFault → Type 0
+IsFaulty text jobs BadExpression = (text ≢ all_word) × ((v : ℤ) → IsWorth text jobs v → ⊥)
+IsFaulty text jobs BelowOne = (v : ℤ) × IsWorth text jobs v × (window_at v ≡ Err BelowOne)

@@ -1,0 +1,80 @@
+// Reads how many tasks may be in flight.
+ghost use Rattle.std.specs.Prelude.{◌≡◌, ◌↔◌, List, ℤ, pos, IsTrue, IfSome, MatchOption, MatchResult};
+ghost use Rattle.jl_batch.specs.declared.signs.Sign.{Sign};
+ghost use Rattle.jl_batch.specs.declared.window.Window.TheVariants.{All};
+ghost use Rattle.jl_batch.specs.Signs.{HasSigns};
+ghost use Rattle.jl_batch.specs.Machine.{run, started};
+ghost use Rattle.jl_batch.specs.Windows.{IsWorth, IsAskedFor, IsFaulty, window_at as window_at_of, all_word};
+
+use crate::machine::Reader;
+use crate::signs::{front_sign, without_blanks};
+use crate::window::Window;
+use thiserror::Error;
+
+/// Why a text is no window.
+#[derive(Debug, Drop, Clone, Copy, PartialEq, Eq, Error)]
+pub enum PreDispatchFault {
+    #[error("no expression in n_jobs")]
+    BadExpression,
+    #[error("no task may be in flight")]
+    BelowOne,
+}
+
+// The value that the signs of a text lead to.
+fn run_text(text: &[u8], jobs: u32) -> Option<i64>
+    ensures some { IfSome result (λ v. (ss : List Sign) × HasSigns text.now ss × (run (pos jobs) started ss ≡ Some v)) }
+    ensures only { (ss : List Sign) → HasSigns text.now ss → result ≡ run (pos jobs) started ss }
+{
+    let mut reader = Reader::new();
+    let mut left = text;
+    'signs: loop {
+        let (sign, rest) = front_sign(left)?;
+        reader = reader.step(jobs, sign)?;
+        if rest.is_empty() {
+            return reader.finish();
+        }
+        left = without_blanks(rest);
+    }
+}
+
+fn value_of(text: &[u8], jobs: u32) -> Option<i64>
+    ensures some { MatchOption result ((v : ℤ) → IsWorth text.now jobs v → ⊥) (λ v. IsWorth text.now jobs v) }
+    ensures only { (v : ℤ) → IsWorth text.now jobs v → result ≡ Some v }
+{
+    run_text(text, jobs)
+}
+
+fn window_at(value: i64) -> Result<Window, PreDispatchFault>
+    ensures { result ≡ window_at_of value }
+{
+    if value < 1 {
+        return Err(PreDispatchFault::BelowOne);
+    }
+    Ok(Window::Tasks(value.min(1_000_000) as u32))
+}
+
+#[tactic(auto, unfolding(crate::specs::Windows::all_word))]
+fn is_all(text: &[u8]) -> bool
+    ensures { IsTrue result ↔ (text.now ≡ all_word) }
+{
+    text == b"all".as_slice()
+}
+
+/// The window that a text asks for: `all`, or how many tasks. The text is an expression of whole
+/// numbers of at most 18 digits and `n_jobs` with Python's `+`, `-`, `*`, `//`, `%` and brackets, in
+/// signed 64 bits. Blanks may stand between its signs, and brackets and minus signs nest at most 32
+/// deep. More than 1,000,000 tasks act as 1,000,000.
+pub fn read_pre_dispatch(text: &str, jobs: u32) -> Result<Window, PreDispatchFault>
+    ensures window { MatchResult result (λ window. IsAskedFor text.now jobs window) (λ fault. IsFaulty text.now jobs fault) }
+    ensures all { text.now ≡ all_word → result ≡ Ok All }
+    ensures value { (v : ℤ) → IsWorth text.now jobs v → result ≡ window_at_of v }
+{
+    let bytes = text.as_bytes();
+    if is_all(bytes) {
+        return Ok(Window::All);
+    }
+    match value_of(bytes, jobs) {
+        Some(value) => window_at(value),
+        None => Err(PreDispatchFault::BadExpression),
+    }
+}
