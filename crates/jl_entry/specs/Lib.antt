@@ -1,0 +1,4 @@
+pub mod Entry
+pub mod Moments
+pub mod Codes
+pub mod Names
