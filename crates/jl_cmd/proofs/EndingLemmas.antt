@@ -2,7 +2,7 @@
 use Rattle.std.proofs.Common.{◌≡◌, ◌∙◌, ◌⊎◌, ◌++◌, ℕ, List, [], Option, Some, None, ap, subst, sym, refl, inl, inr, arith, append-nil, false}
 use Rattle.jl_text.specs.Paths.{PathView}
 use Rattle.jl_folder.specs.State.{is_file, AtSome}
-use Rattle.jl_streams.specs.Counts.{Rose}
+use Rattle.jl_text.specs.Counts.{Rose}
 use Rattle.jl_streams.specs.Streams.{WritesAll}
 use Rattle.jl_streams.specs.declared.sink.WroteAll.{WroteAll}
 use Rattle.jl_streams.specs.declared.sink.WroteAll.TheVariants.{Done as Wrote, Fault}

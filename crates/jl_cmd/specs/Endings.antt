@@ -3,7 +3,7 @@ use Rattle.std.specs.Prelude.{◌≡◌, ◌≢◌, ◌⊎◌, ℕ, ◌+◌, Lis
 use Rattle.jl_text.specs.Paths.{PathView}
 use Rattle.jl_folder.specs.State.{State, Trace, History, AtSome, now, since, is_file}
 use Rattle.jl_folder.specs.Reading.{ReadsNamed}
-use Rattle.jl_streams.specs.Counts.{Rose}
+use Rattle.jl_text.specs.Counts.{Rose}
 use Rattle.jl_streams.specs.Streams.{WritesPrefix}
 use Rattle.jl_words.specs.declared.types.Settings.{Settings}
 use Rattle.jl_cmd.specs.declared.ended.Ended.{Ended}

@@ -2,7 +2,7 @@
 use Rattle.std.specs.Prelude.{◌≡◌, ◌⊎◌, ℕ, List, [], ◌++◌, Option, Bool, false, if◌then◌else◌, nat_eq, codes}
 use Rattle.jl_text.specs.Paths.{PathView}
 use Rattle.jl_folder.specs.State.{is_file, AtSome}
-use Rattle.jl_streams.specs.Counts.{Rose}
+use Rattle.jl_text.specs.Counts.{Rose}
 use Rattle.jl_streams.specs.Streams.{WritesPrefix}
 use Rattle.jl_value.specs.Library.{next_count}
 use Rattle.jl_cmd.specs.Output.{Output}

@@ -2,7 +2,7 @@
 ghost use Rattle.std.specs.Prelude.{◌≡◌, ◌⊎◌, ◌<◌, ◌≤◌, ◌++◌, ℕ, List, Some, None, map, string_bytes};
 ghost use Rattle.jl_folder.specs.State.{now, since};
 ghost use Rattle.jl_folder.specs.Calls.{Waits};
-ghost use Rattle.jl_streams.specs.Counts.{Rose};
+ghost use Rattle.jl_text.specs.Counts.{Rose};
 ghost use Rattle.jl_words.specs.declared.types.Settings.{Settings as SettingsOf};
 ghost use Rattle.jl_words.specs.Settings.{settings_of};
 ghost use Rattle.jl_cmd.specs.Output.{Output, module_of, output_of};

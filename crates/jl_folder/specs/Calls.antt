@@ -217,12 +217,3 @@ SizesFile p size_of.NoMemory s own = own ≡ None
 -- it makes no move
 abbrev pub NoMove : State → Option Move → Type 0
 NoMove s own = own ≡ None
-
--- a count rose: it is larger, or stands at its last value
-abbrev pub Rose : ℕ → ℕ → Type 0
-Rose before now = min (before + 1) (2 ^ 64 - 1) ≤ now
-
--- the count doesn't fall, and it rose at a failure
-pub record Faults (before now : ℕ) (Fails : Type 0) : Type 0 where
-  pub later : before ≤ now
-  pub failed : Fails → Rose before now

@@ -6,8 +6,10 @@ pub mod Looks
 pub mod Memory
 pub mod OpenTable
 pub mod Reading
+pub mod Same
 pub mod State
 pub mod Tables
 pub mod Trees
+pub use Rattle.jl_text.specs.Counts
 pub use Rattle.jl_text.specs.Paths
 pub use Rattle.jl_text.specs.Texts

@@ -2,7 +2,8 @@
 ghost use Rattle.std.specs.Prelude.{◌≡◌, ◌≢◌, ◌<◌, List, ℕ, length};
 ghost use Rattle.jl_folder.specs.State.{History, IsHistory, Opens, closed, now, since};
 ghost use Rattle.jl_folder.specs.Listing.{ListsFolder, ListsParts};
-ghost use Rattle.jl_folder.specs.Calls.{Call, Waits, Faults, MakesDir, CreatesFile, AppendsBytes, AppendsSome, RenamesFile, RemovesFile, RemovesFolder, OpensFile, ReadsBytes, ReadsWithin, SizesFile, NoMove, IsMade, IsOpen, CreatedOpens, OpenedOpens};
+ghost use Rattle.jl_folder.specs.Calls.{Call, Waits, MakesDir, CreatesFile, AppendsBytes, AppendsSome, RenamesFile, RemovesFile, RemovesFolder, OpensFile, ReadsBytes, ReadsWithin, SizesFile, NoMove, IsMade, IsOpen, CreatedOpens, OpenedOpens};
+ghost use Rattle.jl_text.specs.Counts.{Faults};
 
 use crate::listing::Listed;
 use jl_text::Path;

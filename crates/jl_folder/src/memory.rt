@@ -4,7 +4,8 @@ ghost use Rattle.std.specs.Option.{option_copied};
 ghost use Rattle.jl_folder.specs.State.{Allowed, IsForeign, put_open, closed, IsState, bytes_at, is_folder};
 ghost use Rattle.jl_folder.specs.OpenTable.{opens_of};
 ghost use Rattle.jl_folder.specs.State.{own_moves};
-ghost use Rattle.jl_folder.specs.Calls.{Rose, AppendsBytes, AppendsSome, IsTorn};
+ghost use Rattle.jl_folder.specs.Calls.{AppendsBytes, AppendsSome, IsTorn};
+ghost use Rattle.jl_text.specs.Counts.{Rose};
 ghost use Rattle.jl_folder.specs.Tables.{found_node, state_of};
 
 use crate::children::children;

@@ -1,7 +1,8 @@
 // Reads a file through one open number.
 ghost use Rattle.std.specs.Prelude.{◌≡◌, ◌≤◌, ◌<◌, ◌++◌, true, length, take};
 ghost use Rattle.jl_folder.specs.State.{now, since};
-ghost use Rattle.jl_folder.specs.Calls.{Faults, IsOpen, Waits};
+ghost use Rattle.jl_folder.specs.Calls.{IsOpen, Waits};
+ghost use Rattle.jl_text.specs.Counts.{Faults};
 ghost use Rattle.jl_folder.specs.Reading.{ReadsOpen, ReadsFile, file_of, FileWithin, OpenWithin};
 
 use crate::folder::{FileNo, Folder, Opened, ReadAt};

@@ -1,4 +1,4 @@
-pub mod Counts
 pub mod Moments
 pub mod Streams
 pub mod Views
+pub use Rattle.jl_text.specs.Counts

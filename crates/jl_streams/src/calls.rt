@@ -1,6 +1,6 @@
 // Which calls of a form in memory fail.
 ghost use Rattle.std.specs.Prelude.{◌≡◌, ◌≤◌, true};
-ghost use Rattle.jl_streams.specs.Counts.{Rose, Faults};
+ghost use Rattle.jl_text.specs.Counts.{Rose, Faults};
 ghost use Rattle.jl_streams.specs.Views.{fails, begun, failed};
 
 use std::marker::Model;

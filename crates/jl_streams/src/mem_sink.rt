@@ -1,6 +1,6 @@
 // A sink in memory.
 ghost use Rattle.std.specs.Prelude.{◌≡◌, ◌-◌, ◌<◌, [], ◌++◌, true, false, length, take, min, IfOk};
-ghost use Rattle.jl_streams.specs.Counts.{Faults};
+ghost use Rattle.jl_text.specs.Counts.{Faults};
 ghost use Rattle.jl_streams.specs.Streams.{TakesSome, Writes};
 ghost use Rattle.jl_streams.specs.Views.{fails, FailsWrite, FindsNoRoom, TakesFront};
 

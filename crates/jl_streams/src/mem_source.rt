@@ -1,6 +1,6 @@
 // A source in memory.
 ghost use Rattle.std.specs.Prelude.{◌≡◌, ◌<◌, ◌≤◌, ◌++◌, true, false, length, take, drop, min};
-ghost use Rattle.jl_streams.specs.Counts.{Faults};
+ghost use Rattle.jl_text.specs.Counts.{Faults};
 ghost use Rattle.jl_streams.specs.Streams.{GivesSome, Reads};
 ghost use Rattle.jl_streams.specs.Views.{fails, share, FailsRead, GivesFront};
 

@@ -1,6 +1,6 @@
 // Where bytes go.
 ghost use Rattle.std.specs.Prelude.{◌≡◌, ℕ, List, length};
-ghost use Rattle.jl_streams.specs.Counts.{Faults};
+ghost use Rattle.jl_text.specs.Counts.{Faults};
 ghost use Rattle.jl_streams.specs.Streams.{TakesSome, Writes, WritesAll};
 
 /// What a write took.

@@ -3,7 +3,8 @@ ghost use Rattle.std.specs.Prelude.{◌≡◌, ◌≤◌, ℕ, length, IfOk, Mat
 ghost use Rattle.jl_text.specs.Paths.{is_part};
 ghost use Rattle.jl_folder.specs.State.{Opens, put_open, closed};
 ghost use Rattle.jl_folder.specs.OpenTable.{opens_of};
-ghost use Rattle.jl_folder.specs.Calls.{Rose, AppendsSome, CreatedOpens, OpenedOpens, ReadsWithin};
+ghost use Rattle.jl_folder.specs.Calls.{AppendsSome, CreatedOpens, OpenedOpens, ReadsWithin};
+ghost use Rattle.jl_text.specs.Counts.{Rose};
 ghost use Rattle.jl_folder.specs.Listing.{ListsParts};
 
 use jl_folder::{
