@@ -9,7 +9,6 @@ pub mod Tokens
 pub mod Key
 pub mod Walked
 pub mod Library
-pub mod Told
 pub mod Names
 pub mod Tiny
 pub mod TinyLaws

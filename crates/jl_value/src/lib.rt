@@ -15,8 +15,7 @@ pub use fault::ValueFault;
 pub use jl_text::Text;
 pub use key::{Args, Key, digest};
 pub use library::{
-    Called, CodeRef, Library, ModuleFault, ModuleFaultKind, Outcome, ReadModule, TaskError, Told,
-    tell,
+    Called, CodeRef, Library, ModuleFault, ModuleFaultKind, Outcome, ReadModule, TaskError,
 };
 pub use reading::read_value;
 pub use tiny::TinyLibrary;

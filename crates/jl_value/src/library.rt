@@ -5,13 +5,11 @@ ghost use Rattle.jl_value.specs.Key.{args_tree};
 ghost use Rattle.jl_value.specs.Canonical.{text_of};
 ghost use Rattle.jl_value.specs.Proper.{IsProper};
 ghost use Rattle.jl_value.specs.declared.library.ModuleFault.{ModuleFault};
-ghost use Rattle.jl_value.specs.Told.{IsTold, IsCounted};
 ghost use Rattle.jl_value.specs.Names.{name_of, fault_name_of};
 ghost use Rattle.jl_value.specs.Library.{Answer, value as answered, error as failed, outcome_of, IfDone, Counted, HasRead, IsWithin, next_count};
 
 use crate::key::Args;
 use crate::value::Value;
-use crate::writing::canonical;
 use jl_text::Text;
 use std::alloc::{AllocError, Global};
 use thiserror::Error;
@@ -185,31 +183,4 @@ pub trait Library: Sized {
     // The answers keep the limits.
     ghost within: { (c : List ℕ) (ps : List (List ℕ × Tree)) → IsProper (args_tree ps)
         → IsWithin (answer c ps) };
-}
-
-/// What a call answered, as text.
-#[derive(Drop)]
-pub enum Told {
-    Text(Text),
-    Error(TaskError),
-    NoMemory,
-}
-
-/// One call, and the canonical text of its value.
-pub fn tell<L: Library>(alloc: Global, lib: &mut L, name: &str, args: &Args) -> Told
-    requires defined { IsSome (L.code (L.loaded lib.old) name.now) }
-    requires proper { IsProper (args_tree args.now) }
-    ensures told { (c : List ℕ) → L.code (L.loaded lib.old) name.now ≡ Some c
-        → IsTold result (L.answer c args.now) }
-    ensures loaded { L.loaded lib.new ≡ L.loaded lib.old }
-    ensures calls { IsCounted result (L.calls lib.old) (L.calls lib.new) }
-{
-    match lib.call(alloc, name, args) {
-        Called::NoMemory => Told::NoMemory,
-        Called::Done(Outcome::Error(error)) => Told::Error(error),
-        Called::Done(Outcome::Value(value)) => match canonical(alloc, &value) {
-            Ok(text) => Told::Text(text),
-            Err(_) => Told::NoMemory,
-        },
-    }
 }

@@ -190,11 +190,11 @@ fn fault(line: u64, kind: ModuleFaultKind) -> ReadModule {
     ReadModule::Fault(ModuleFault { line, kind })
 }
 
-// What a call of a tiny library prints.
-fn told(
+// What a call of any library prints.
+fn told<L: Library>(
     rt: &impl Abort,
     alloc: Global,
-    library: &mut TinyLibrary,
+    library: &mut L,
     name: &str,
     args: &Args,
 ) -> Text {
@@ -202,10 +202,12 @@ fn told(
         panic!(rt; "no {name}");
     }
     let _key = digest(alloc.clone().expect(rt, "memory"), args).expect(rt, "memory");
-    match tell(alloc.clone().expect(rt, "memory"), library, name, args) {
-        Told::Text(text) => text,
-        Told::Error(error) => Text::new(String::from_str(alloc, error.name()).expect(rt, "memory")),
-        Told::NoMemory => panic!(rt; "no memory"),
+    match library.call(alloc.clone().expect(rt, "memory"), name, args) {
+        Called::Done(Outcome::Value(value)) => canonical(alloc, &value).expect(rt, "memory"),
+        Called::Done(Outcome::Error(error)) => {
+            Text::new(String::from_str(alloc, error.name()).expect(rt, "memory"))
+        }
+        Called::NoMemory => panic!(rt; "no memory"),
     }
 }
 
@@ -250,5 +252,13 @@ fn names_are_printed(rt: HostRuntime) -> Result<(), Fail> {
     assert_eq!(rt; names.as_str(), "BadKind Twice");
     assert_eq!(rt; TaskError::Overflow.name(), "Overflow");
     assert_eq!(rt; ModuleFaultKind::TooLarge.name(), "TooLarge");
+    Ok(())
+}
+
+#[test]
+fn the_text_of_a_table_is_that_of_its_value(rt: HostRuntime) -> Result<(), Fail> {
+    let args = args(&rt, rt.alloc(), "{\"b\": [1], \"a\": 2}");
+    let text = canonical_table(rt.alloc(), args.value())?;
+    assert_eq!(rt; text.as_str(), "{\"a\":2,\"b\":[1]}");
     Ok(())
 }
