@@ -1,5 +1,6 @@
 // From the words and the environment to a run.
-ghost use Rattle.std.specs.Prelude.{◌≡◌, ◌≤◌};
+ghost use Rattle.std.specs.Prelude.{◌≡◌, ◌≤◌, IfOk};
+ghost use Rattle.jl_cmd.specs.Promises.{IsSilent, IsStatus};
 
 use crate::real_folder::RealFolder;
 use crate::real_host::{RealHost, moment_of};
@@ -33,7 +34,9 @@ impl StartFault {
     }
 
     // The exit status.
-    fn status(&self) -> u8 {
+    fn status(&self) -> u8
+        ensures { IsSilent result }
+    {
         match self {
             StartFault::Usage => 2,
             StartFault::Memory => 8,
@@ -104,6 +107,9 @@ where
     E: Sink,
     requires least { 1 ≤ processors }
     requires most { processors ≤ 1024 }
+    ensures status { IfOk result (λ n. IsStatus n) }
+    ensures out_faults { O.faults out.old ≤ O.faults out.new }
+    ensures err_faults { E.faults err.old ≤ E.faults err.new }
 {
     let given = first_token(&rt, words)?;
     let own = own_words(words, given.is_some());
@@ -133,6 +139,9 @@ where
     E: Sink,
     requires least { 1 ≤ processors }
     requires most { processors ≤ 1024 }
+    ensures status { IsStatus result }
+    ensures out_faults { O.faults out.old ≤ O.faults out.new }
+    ensures err_faults { E.faults err.old ≤ E.faults err.new }
 {
     let fault = match words_of(&rt) {
         Ok(words) => match run_words(rt, processors, words.as_slice(), input, out, err) {
