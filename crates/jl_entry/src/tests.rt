@@ -238,3 +238,13 @@ fn a_temporary_name_is_the_name_and_the_token(rt: HostRuntime) -> Result<(), Fai
     }
     Ok(())
 }
+
+#[test]
+fn the_root_and_a_functions_folder_have_their_names(rt: HostRuntime) -> Result<(), Fail> {
+    let location = Path::read(rt.alloc(), "c")?;
+    let top = root(rt.alloc(), &location)?;
+    assert!(rt; is_text(rt.alloc(), &top, "c/joblib")?);
+    let folder = function_folder(rt.alloc(), &location, "m", "square")?;
+    assert!(rt; is_text(rt.alloc(), &folder, "c/joblib/m/square")?);
+    Ok(())
+}

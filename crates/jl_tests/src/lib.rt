@@ -7,3 +7,5 @@ mod calls;
 mod folders;
 #[cfg(test)]
 mod stage;
+#[cfg(test)]
+mod trees;
