@@ -1,0 +1,8 @@
+pub mod Alone
+pub mod Causes
+pub mod Composed
+pub mod Effects
+pub mod Prefixes
+pub mod Since
+pub mod Touched
+pub mod Traces

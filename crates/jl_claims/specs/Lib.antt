@@ -1,0 +1,4 @@
+pub mod Claims
+pub mod Lone
+pub mod Steps
+pub mod Touches
