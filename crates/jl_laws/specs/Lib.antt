@@ -1,0 +1,4 @@
+pub mod Owned
+pub mod Proper
+pub mod Tidy
+pub mod Whole

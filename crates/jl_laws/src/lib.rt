@@ -1,0 +1,6 @@
+//! Laws of a cache folder that many runs share: which moves are proper and lawful, and which states they keep.
+#![tactic(auto)]
+
+mod laws;
+
+pub use laws::{absent_roots_are_sound, calls_compose, moves_keep_stores, runs_compose};
