@@ -3,5 +3,6 @@ pub mod DigitLemmas
 pub mod Division
 pub mod LevelLemmas
 pub mod NegationLemmas
+pub mod ReadLemmas
 pub mod Soundness
 pub mod TextLemmas

@@ -3,6 +3,7 @@ pub mod Expressions
 pub mod Jobs
 pub mod Levels
 pub mod Machine
+pub mod Reads
 pub mod Rooms
 pub mod Signs
 pub mod Sizes

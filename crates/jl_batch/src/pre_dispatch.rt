@@ -4,6 +4,8 @@ ghost use Rattle.jl_batch.specs.declared.signs.Sign.{Sign};
 ghost use Rattle.jl_batch.specs.declared.window.Window.TheVariants.{All};
 ghost use Rattle.jl_batch.specs.Signs.{HasSigns};
 ghost use Rattle.jl_batch.specs.Machine.{run, started};
+ghost use Rattle.std.specs.Result.{result_ok};
+ghost use Rattle.jl_batch.specs.Reads.{value_in, window_of};
 ghost use Rattle.jl_batch.specs.Windows.{IsWorth, IsAskedFor, IsFaulty, window_at as window_at_of, all_word};
 
 use crate::machine::Reader;
@@ -24,6 +26,7 @@ pub enum PreDispatchFault {
 fn run_text(text: &[u8], jobs: u32) -> Option<i64>
     ensures some { IfSome result (λ v. (ss : List Sign) × HasSigns text.now ss × (run (pos jobs) started ss ≡ Some v)) }
     ensures only { (ss : List Sign) → HasSigns text.now ss → result ≡ run (pos jobs) started ss }
+    ensures reads { result ≡ value_in text.now jobs }
 {
     let mut reader = Reader::new();
     let mut left = text;
@@ -40,6 +43,7 @@ fn run_text(text: &[u8], jobs: u32) -> Option<i64>
 fn value_of(text: &[u8], jobs: u32) -> Option<i64>
     ensures some { MatchOption result ((v : ℤ) → IsWorth text.now jobs v → ⊥) (λ v. IsWorth text.now jobs v) }
     ensures only { (v : ℤ) → IsWorth text.now jobs v → result ≡ Some v }
+    ensures reads { result ≡ value_in text.now jobs }
 {
     run_text(text, jobs)
 }
@@ -68,6 +72,7 @@ pub fn read_pre_dispatch(text: &str, jobs: u32) -> Result<Window, PreDispatchFau
     ensures window { MatchResult result (λ window. IsAskedFor text.now jobs window) (λ fault. IsFaulty text.now jobs fault) }
     ensures all { text.now ≡ all_word → result ≡ Ok All }
     ensures value { (v : ℤ) → IsWorth text.now jobs v → result ≡ window_at_of v }
+    ensures reads { result_ok result ≡ window_of text.now jobs }
 {
     let bytes = text.as_bytes();
     if is_all(bytes) {
