@@ -1,1 +1,10 @@
+pub mod Few
+pub mod Gathered
+pub mod Lists
+pub mod ParsedEnd
+pub mod ParsedRows
+pub mod ParsedRules
+pub mod ParsedSteps
+pub mod ParsedWords
+pub mod Settled
 pub mod Suffixes

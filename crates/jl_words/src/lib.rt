@@ -1,12 +1,21 @@
 //! The words of a command line.
 #![tactic(auto)]
 
+mod command;
+mod commands;
+mod law;
 mod module;
+mod parallel;
+mod parser;
+mod parts;
+mod reader;
 mod types;
+mod values;
 mod words;
 
+pub use law::modules_have_names;
 pub use module::module_name;
-pub use types::{Settings, SettingsFault};
+pub use types::{Backend, Mode, Settings, SettingsFault};
 pub use words::settings;
 
 #[cfg(test)]

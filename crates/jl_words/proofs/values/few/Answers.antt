@@ -1,0 +1,15 @@
+use Rattle.std.proofs.Common.{rules, ◌≡◌, ◌<◌, Some, arith}
+use Rattle.jl_limits.specs.Limits.{count_of}
+use Rattle.jl_words.proofs.Few.{few_are_small}
+use Rattle.jl_words.proofs.values.few.Goals as goal
+
+pub overflow_cast-result : goal.overflow_cast-result
+overflow_cast-result c =
+    let read : count_of c.args.text.now ≡ Some c.in-Ok.count = search rules in
+    let small : c.in-Ok.count < 1000000000 = few_are_small c.args.text.now c.in-Ok.count (omega arith) read in
+    record { fits = omega arith }
+
+pub returns-in-Ok-clause-small : goal.returns-in-Ok-clause-small
+returns-in-Ok-clause-small c =
+    let read : count_of c.args.text.now ≡ Some c.in-Ok.count = search rules in
+    few_are_small c.args.text.now c.in-Ok.count (omega arith) read
