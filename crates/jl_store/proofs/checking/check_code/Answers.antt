@@ -1,0 +1,108 @@
+use Rattle.std.proofs.Common.{◌≡◌, ◌∙◌, ℕ, List, refl, sym, subst, arith}
+use Rattle.jl_text.specs.Paths.{PathView}
+use Rattle.jl_folder.specs.State.{History, since}
+use Rattle.jl_folder.specs.Calls.{Waits}
+use Rattle.jl_entry.specs.Codes.{code_text}
+use Rattle.jl_entry.specs.Names.{code_of, IsTemp, root_of}
+use Rattle.jl_entry.proofs.NameFacts.{final_not_temp}
+use Rattle.jl_claims.specs.Claims.{Called, Anywhere}
+use Rattle.jl_claims.proofs.Composed.{not_called}
+use Rattle.jl_laws.specs.Proper.{IsProper}
+use Rattle.jl_laws.specs.Tidy.{IsTidy}
+use Rattle.jl_store.specs.Kinds.{PutsThis}
+use Rattle.jl_store.specs.Checking.{UsesCode, MovesFor, IsChecking, function_path, code_path, code_temp}
+use Rattle.jl_store.proofs.StorePaths.{code_whole}
+use Rattle.jl_store.proofs.CheckLemmas.{check_called, check_checks, lawful_code}
+use Rattle.jl_store.specs.Publishing.{EndsIn}
+use Rattle.jl_folder.specs.declared.moves.Move.TheVariants.{Rename}
+use Rattle.jl_laws.specs.Whole.{IsWhole}
+use Rattle.jl_claims.specs.Touches.{TouchedByOther}
+use Rattle.jl_store.proofs.SkipCauses.{skips_held}
+use Rattle.jl_store.proofs.checking.check_code.Given as given
+use Rattle.jl_store.proofs.checking.check_code.Goals as goal
+
+-- where nothing was done
+none_called : (root : PathView) (m f token bytes : List ℕ) (h : History) → Called (IsProper root) (PutsThis root (code_path root m f) bytes) token (IsChecking (function_path root m f) (code_path root m f) (code_temp root m f token)) (IsTidy root) Anywhere h h
+none_called root m f token bytes h = not_called (IsProper root) (PutsThis root (code_path root m f) bytes) token (IsChecking (function_path root m f) (code_path root m f) (code_temp root m f token)) (IsTidy root) Anywhere h (λ s tidy. tt)
+
+pub returns-in_default-clause-called : goal.returns-in_default-clause-called
+returns-in_default-clause-called g c = λ t. none_called (root_of c.args.memory.now.location) c.args.memory.now.module c.args.name.now c.args.memory.now.token (code_text c.args.code.now c.args.line) (g.F.Folder.history c.args.folder.now)
+
+pub returns-in_default-clause-lawful : goal.returns-in_default-clause-lawful
+returns-in_default-clause-lawful g c = λ t answer.
+    lawful_code (root_of c.args.memory.now.location) c.args.memory.now.module c.args.name.now (code_path (root_of c.args.memory.now.location) c.args.memory.now.module c.args.name.now)
+    (record { formed = (c.requires.module_name, c.requires.function_name); is = refl }) c.args.memory.now.token (code_text c.args.code.now c.args.line) _ (g.F.Folder.history c.args.folder.now) (g.F.Folder.history c.args.folder.now)
+    (none_called (root_of c.args.memory.now.location) c.args.memory.now.module c.args.name.now c.args.memory.now.token (code_text c.args.code.now c.args.line) (g.F.Folder.history c.args.folder.now)) answer
+
+pub returns-in_default-write_code-clause-called : goal.returns-in_default-write_code-clause-called
+returns-in_default-write_code-clause-called g c = λ t. none_called (root_of c.args.memory.now.location) c.args.memory.now.module c.args.name.now c.args.memory.now.token (code_text c.args.code.now c.args.line) (g.F.Folder.history c.args.folder.now)
+
+pub returns-in_default-write_code-clause-lawful : goal.returns-in_default-write_code-clause-lawful
+returns-in_default-write_code-clause-lawful g c = λ t answer.
+    lawful_code (root_of c.args.memory.now.location) c.args.memory.now.module c.args.name.now (code_path (root_of c.args.memory.now.location) c.args.memory.now.module c.args.name.now)
+    (record { formed = (c.requires.module_name, c.requires.function_name); is = refl }) c.args.memory.now.token (code_text c.args.code.now c.args.line) _ (g.F.Folder.history c.args.folder.now) (g.F.Folder.history c.args.folder.now)
+    (none_called (root_of c.args.memory.now.location) c.args.memory.now.module c.args.name.now c.args.memory.now.token (code_text c.args.code.now c.args.line) (g.F.Folder.history c.args.folder.now)) answer
+
+pub follow-requires : goal.follow-requires
+follow-requires g c = λ e.
+    final_not_temp (root_of c.args.memory.now.location) (code_of c.args.memory.now.module c.args.name.now) (code_of c.args.memory.now.module c.args.name.now) c.args.memory.now.token _ c.in-Ok.ensures.1
+    (subst (λ (p : PathView). IsTemp (root_of c.args.memory.now.location) (code_of c.args.memory.now.module c.args.name.now) c.args.memory.now.token p) e c.in-Ok.ensures.2)
+
+-- the token of the folder is the memory's, also after the reading
+token_is : (g : given.Over) (c : goal.After-drop-files-4 g) → g.F.Folder.token c.held-held.new.folder ≡ c.args.memory.now.token
+token_is g c = c.held-held.ensures.token ∙ c.requires.token
+
+waited : (g : given.Over) (c : goal.After-drop-files-4 g) → g.F.Folder.told c.args.folder.now → Waits c.args.memory.now.token (g.F.Folder.history c.args.folder.now) (g.F.Folder.history c.held-held.new.folder)
+waited g c t = subst (λ (u : List ℕ). Waits u (g.F.Folder.history c.args.folder.now) (g.F.Folder.history c.held-held.new.folder)) c.requires.token (c.held-held.ensures.waits t)
+
+-- what was done after the reading
+stored : (g : given.Over) (c : goal.After-drop-files-4 g) → g.F.Folder.told c.args.folder.now
+    → Called (IsProper (root_of c.args.memory.now.location)) (PutsThis (root_of c.args.memory.now.location) c.in-Ok.files.last (code_text c.args.code.now c.args.line)) c.args.memory.now.token (MovesFor c.in-Ok.files c.held-held.result) (IsTidy (root_of c.args.memory.now.location)) Anywhere (g.F.Folder.history c.held-held.new.folder) (g.F.Folder.history c.follow.new.folder)
+stored g c t =
+    let root = root_of c.args.memory.now.location in
+    let code = code_of c.args.memory.now.module c.args.name.now in
+    let text : _ ≡ code_text c.args.code.now c.args.line = c.as_slice.ensures ∙ c.in-Ok-write_code.ensures.text in
+    let whole = subst (IsWhole code) (sym text) (code_whole c.args.memory.now.module c.args.name.now c.args.code.now c.args.line c.requires.line (omega arith) c.requires.code) in
+    let temp = subst (λ (u : List ℕ). IsTemp root code u c.in-Ok.files.temp) (sym (token_is g c)) c.in-Ok.ensures.2 in
+    let call = c.follow.ensures.stores.called (c.held-held.ensures.told t) root code (c.args.memory.now.module, c.args.name.now, c.requires.module_name, c.requires.function_name, c.in-Ok.ensures.0) temp c.in-Ok.ensures.1 whole in
+    subst (λ (b : List ℕ). Called (IsProper root) (PutsThis root c.in-Ok.files.last b) c.args.memory.now.token (MovesFor c.in-Ok.files c.held-held.result) (IsTidy root) Anywhere (g.F.Folder.history c.held-held.new.folder) (g.F.Folder.history c.follow.new.folder)) text
+    (subst (λ (u : List ℕ). Called (IsProper root) (PutsThis root c.in-Ok.files.last c.as_slice.result.now) u (MovesFor c.in-Ok.files c.held-held.result) (IsTidy root) Anywhere (g.F.Folder.history c.held-held.new.folder) (g.F.Folder.history c.follow.new.folder)) (token_is g c) call)
+
+pub returns-clause-called : goal.returns-clause-called
+returns-clause-called g c = λ t.
+    check_called (root_of c.args.memory.now.location) c.args.memory.now.module c.args.name.now c.args.memory.now.token c.in-Ok.files c.in-Ok.ensures (code_text c.args.code.now c.args.line) c.held-held.result
+    (g.F.Folder.history c.args.folder.now) (g.F.Folder.history c.held-held.new.folder) (g.F.Folder.history c.follow.new.folder) (waited g c t) (stored g c t)
+
+pub returns-clause-lawful : goal.returns-clause-lawful
+returns-clause-lawful g c = λ t answer.
+    lawful_code (root_of c.args.memory.now.location) c.args.memory.now.module c.args.name.now (code_path (root_of c.args.memory.now.location) c.args.memory.now.module c.args.name.now)
+    (record { formed = (c.requires.module_name, c.requires.function_name); is = refl }) c.args.memory.now.token (code_text c.args.code.now c.args.line) _ (g.F.Folder.history c.args.folder.now) (g.F.Folder.history c.follow.new.folder)
+    (returns-clause-called g c t) answer
+
+pub returns-clause-checks : goal.returns-clause-checks
+returns-clause-checks g c = λ t.
+    check_checks (root_of c.args.memory.now.location) c.args.memory.now.module c.args.name.now c.args.memory.now.token c.in-Ok.files c.in-Ok.ensures c.args.code.now c.held-held.result c.follow.result
+    (g.F.Folder.history c.args.folder.now) (g.F.Folder.history c.held-held.new.folder) (g.F.Folder.history c.follow.new.folder) (waited g c t) (c.follow.ensures.stores.goes (c.held-held.ensures.told t)) (stored g c t).own c.follow.ensures.comes
+    (c.held-held.ensures.holds t)
+    (λ done. subst (λ (u : List ℕ). EndsIn (u, Rename c.in-Ok.files.temp c.in-Ok.files.last) (since (g.F.Folder.history c.held-held.new.folder) (g.F.Folder.history c.follow.new.folder))) (token_is g c) (c.follow.ensures.stores.ends (c.held-held.ensures.told t) done))
+
+pub returns-clause-skipped : goal.returns-clause-skipped
+returns-clause-skipped g c = λ t is tidy all.
+    let root = root_of c.args.memory.now.location in
+    let code = code_of c.args.memory.now.module c.args.name.now in
+    let token = c.args.memory.now.token in
+    let old = g.F.Folder.history c.args.folder.now in
+    let mid = g.F.Folder.history c.held-held.new.folder in
+    let new = g.F.Folder.history c.follow.new.folder in
+    let told = c.held-held.ensures.told t in
+    let files = c.in-Ok.files in
+    let text : _ ≡ code_text c.args.code.now c.args.line = c.as_slice.ensures ∙ c.in-Ok-write_code.ensures.text in
+    let whole = subst (IsWhole code) (sym text) (code_whole c.args.memory.now.module c.args.name.now c.args.code.now c.args.line c.requires.line (omega arith) c.requires.code) in
+    let temp = subst (λ (u : List ℕ). IsTemp root code u files.temp) (sym (token_is g c)) c.in-Ok.ensures.2 in
+    let touched = skips_held root c.args.memory.now.module c.args.name.now token files c.in-Ok.ensures c.args.code.now c.held-held.result old mid new (waited g c t) (c.follow.ensures.stores.goes told) (c.held-held.ensures.holds t)
+    (λ tidy_mid all_mid pre. subst (λ (u : List ℕ). TouchedByOther u (UsesCode files.folder files.last files.temp) (since mid new)) (token_is g c)
+    (c.follow.ensures.skips told is root c.args.memory.now.module c.args.name.now c.requires.module_name c.requires.function_name (c.in-Ok.ensures.0, c.in-Ok.ensures.1, temp) whole tidy_mid all_mid pre))
+    tidy all in
+    subst (λ (p : PathView). TouchedByOther token (UsesCode p (code_path root c.args.memory.now.module c.args.name.now) (code_temp root c.args.memory.now.module c.args.name.now token)) (since old new)) c.in-Ok.ensures.0
+    (subst (λ (p : PathView). TouchedByOther token (UsesCode files.folder p (code_temp root c.args.memory.now.module c.args.name.now token)) (since old new)) c.in-Ok.ensures.1.is
+    (subst (λ (p : PathView). TouchedByOther token (UsesCode files.folder files.last p) (since old new)) c.in-Ok.ensures.2.is touched))

@@ -1,0 +1,10 @@
+use Rattle.std.proofs.Common.{◌∙◌, sym}
+use Rattle.jl_store.proofs.NamePlaces.{temp_no_folder, final_no_folder}
+use Rattle.jl_store.proofs.SkipCauses.{check_skipped}
+use Rattle.jl_store.proofs.checking.store.Goals as goal
+
+-- in a tidy state no folder has the file's names
+pub returns-clause-skipped : goal.returns-clause-skipped
+returns-clause-skipped g c = λ t is root x temp final whole tidy has.
+    (c.publish-published.ensures.called t root x temp final whole).skipped (check_skipped c.publish-published.result c.args.done c.requires.unskipped (sym c.as_check.ensures ∙ is))
+    (record { last_free = final_no_folder root x _ _ final tidy; temp_free = temp_no_folder root x _ _ _ temp tidy; home = has })

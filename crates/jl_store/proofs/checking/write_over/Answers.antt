@@ -1,0 +1,39 @@
+use Rattle.std.proofs.Common.{ℕ, List, sym, subst}
+use Rattle.jl_folder.specs.State.{since}
+use Rattle.jl_entry.specs.Names.{code_of, IsTemp}
+use Rattle.jl_claims.specs.Touches.{TouchedByOther}
+use Rattle.jl_store.specs.Kinds.{UsesNames}
+use Rattle.jl_store.proofs.DoingLemmas.{goes_does}
+use Rattle.jl_store.proofs.SkipCauses.{skips_then, cleared_there}
+use Rattle.jl_store.specs.Doing.{IsClearing}
+use Rattle.jl_store.proofs.StorePaths.{clearing_puts}
+use Rattle.jl_store.proofs.CheckLemmas.{stores_then, stores_only}
+use Rattle.jl_store.proofs.checking.write_over.Goals as goal
+
+pub returns-in-Cleared-clause-stores : goal.returns-in-Cleared-clause-stores
+returns-in-Cleared-clause-stores g c = stores_then g.F.Folder.token g.F.Folder.told g.F.Folder.history g.F.Folder.opens g.F.Folder.faults c.args.files.now c.args.bytes.now (IsClearing c.args.files.now.folder) (λ root fun t s m is. clearing_puts root c.args.files.now.folder fun c.args.files.now.last c.args.bytes.now t s m is) c.store.result c.args.folder.now c.clear_entries.new.folder c.store.new.folder c.clear_entries.ensures.does c.store.ensures.stores
+
+pub returns-in-Fault-clause-stores : goal.returns-in-Fault-clause-stores
+returns-in-Fault-clause-stores g c = stores_only g.F.Folder.token g.F.Folder.told g.F.Folder.history g.F.Folder.opens g.F.Folder.faults c.args.files.now c.args.bytes.now (IsClearing c.args.files.now.folder) (λ root fun t s m is. clearing_puts root c.args.files.now.folder fun c.args.files.now.last c.args.bytes.now t s m is) _ c.args.folder.now c.clear_entries.new.folder c.clear_entries.ensures.does (λ done. done) (λ e. c.clear_entries.ensures.cause c.in-Fault.is)
+
+pub returns-in-NoMemory-clause-stores : goal.returns-in-NoMemory-clause-stores
+returns-in-NoMemory-clause-stores g c = stores_only g.F.Folder.token g.F.Folder.told g.F.Folder.history g.F.Folder.opens g.F.Folder.faults c.args.files.now c.args.bytes.now (IsClearing c.args.files.now.folder) (λ root fun t s m is. clearing_puts root c.args.files.now.folder fun c.args.files.now.last c.args.bytes.now t s m is) _ c.args.folder.now c.clear_entries.new.folder c.clear_entries.ensures.does (λ done. done) (λ e. cc)
+
+pub returns-in-Cleared-clause-skips : goal.returns-in-Cleared-clause-skips
+returns-in-Cleared-clause-skips g c = λ t is root m f hm hf are whole tidy all pre.
+    let token = g.F.Folder.token c.args.folder.now in
+    let mid_token = c.clear_entries.ensures.does.same_token in
+    let told = c.clear_entries.ensures.does.tells t in
+    let first = goes_does g.F.Folder.token g.F.Folder.told g.F.Folder.history g.F.Folder.opens g.F.Folder.faults _ c.args.folder.now c.clear_entries.new.folder c.clear_entries.ensures.does t in
+    let second = c.store.ensures.stores.goes told in
+    skips_then root m f token c.args.files.now are (g.F.Folder.history c.args.folder.now) (g.F.Folder.history c.clear_entries.new.folder) (g.F.Folder.history c.store.new.folder) first second
+    (cleared_there root m f (g.F.Folder.token c.args.folder.now) c.args.files.now are (g.F.Folder.history c.args.folder.now) (g.F.Folder.history c.clear_entries.new.folder) (c.clear_entries.ensures.does.moves t) pre)
+    (λ tidy_mid has. subst (λ (u : List ℕ). TouchedByOther u (UsesNames c.args.files.now.last c.args.files.now.temp) (since (g.F.Folder.history c.clear_entries.new.folder) (g.F.Folder.history c.store.new.folder))) mid_token
+    (c.store.ensures.skipped told is root (code_of m f) (subst (λ (u : List ℕ). IsTemp root (code_of m f) u c.args.files.now.temp) (sym mid_token) are.2) are.1 whole tidy_mid has))
+    tidy all
+
+pub returns-in-Fault-clause-skips : goal.returns-in-Fault-clause-skips
+returns-in-Fault-clause-skips g c = λ t is root m f hm hf are whole tidy all pre. cc
+
+pub returns-in-NoMemory-clause-skips : goal.returns-in-NoMemory-clause-skips
+returns-in-NoMemory-clause-skips g c = λ t is root m f hm hf are whole tidy all pre. cc

@@ -1,0 +1,32 @@
+-- What a cached call answers, beside any other runs.
+use Rattle.std.specs.Prelude.{◌≡◌, ◌⊎◌, ℕ, ⊤}
+use Rattle.jl_folder.specs.declared.moves.Move.{Move}
+use Rattle.jl_value.specs.Form.{tree_of}
+use Rattle.jl_value.specs.Library.{Answer, value, error, next_count}
+use Rattle.jl_store.specs.declared.cached.Cached.{Cached}
+use Rattle.jl_store.specs.declared.cached.Cached.TheVariants.{Hit, Computed, Error, NoMemory}
+
+-- any move
+abbrev pub AnyMove : Move → Type 0
+AnyMove m = ⊤
+
+-- a value or an error is the library's answer; of a value that was found this rests on the folder
+abbrev pub IsAnswer : Cached → Answer → (trusted : Type 0) → Type 0
+IsAnswer (Hit v) a trusted = trusted → a ≡ value (tree_of v)
+IsAnswer (Computed v) a trusted = a ≡ value (tree_of v)
+IsAnswer (Error e) a trusted = a ≡ error e
+IsAnswer NoMemory a trusted = ⊤
+
+-- the library's count rises by one exactly where the function was called
+abbrev pub CountsCall : Cached → ℕ → ℕ → Type 0
+CountsCall (Hit v) old new = new ≡ old
+CountsCall (Computed v) old new = new ≡ next_count old
+CountsCall (Error e) old new = new ≡ next_count old
+CountsCall NoMemory old new = (new ≡ old) ⊎ (new ≡ next_count old)
+
+-- what a call of the function answers, and its count: it rises where the function answered
+abbrev pub IsMissed : Cached → Answer → (calls calls' : ℕ) → Type 0
+IsMissed (Hit v) a old new = ⊥
+IsMissed (Computed v) a old new = (a ≡ value (tree_of v)) × (new ≡ next_count old)
+IsMissed (Error e) a old new = (a ≡ error e) × (new ≡ next_count old)
+IsMissed NoMemory a old new = (new ≡ old) ⊎ (new ≡ next_count old)

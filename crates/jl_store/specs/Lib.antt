@@ -1,0 +1,11 @@
+pub mod Cached
+pub mod Checking
+pub mod Doing
+pub mod Keeping
+pub mod Kinds
+pub mod Looking
+pub mod Publishing
+pub mod Reading
+pub mod Storing
+pub mod Trust
+pub mod Warnings

@@ -1,0 +1,123 @@
+-- What publishing a final file does, whatever others do.
+use Rattle.std.specs.Prelude.{◌≡◌, ◌⊎◌, ℕ, false, true, List, [], ◌∷◌, ◌++◌, Option, None, Some, IsSome, ⊤}
+use Rattle.jl_text.specs.Paths.{PathView}
+use Rattle.jl_folder.specs.declared.moves.Place.TheVariants.{File}
+use Rattle.jl_folder.specs.declared.moves.OpenFile.{OpenFile}
+use Rattle.jl_folder.specs.declared.moves.Move.{Move}
+use Rattle.jl_folder.specs.declared.moves.Move.TheVariants.{Remove}
+use Rattle.jl_folder.specs.State.{State, Event, Trace, History, Opens, place_at, node_at, is_file, is_folder, has_parent, bytes_at, now, since}
+use Rattle.jl_folder.specs.Calls.{Creates, MaybeCreates, Maybe, OpensNew}
+use Rattle.jl_entry.specs.Names.{Final, IsTemp}
+use Rattle.jl_claims.specs.Claims.{Called, Anywhere}
+use Rattle.jl_claims.specs.Touches.{TouchedByOther}
+use Rattle.jl_laws.specs.Proper.{IsProper}
+use Rattle.jl_laws.specs.Tidy.{IsTidy}
+use Rattle.jl_laws.specs.Owned.{IsOwnFile}
+use Rattle.jl_store.specs.Kinds.{IsFor, PutsThis, UsesNames}
+use Rattle.jl_store.specs.declared.temporary.TempFile.{TempFile}
+use Rattle.jl_store.specs.declared.temporary.TempFile.TheVariants as temp_file
+use Rattle.jl_store.specs.declared.temporary.Taken.{Taken}
+use Rattle.jl_store.specs.declared.temporary.Taken.TheVariants as taken
+use Rattle.jl_store.specs.declared.files.Wrote.{Wrote}
+use Rattle.jl_store.specs.declared.files.Wrote.TheVariants as wrote
+use Rattle.jl_store.specs.declared.files.Published.{Published}
+use Rattle.jl_store.specs.declared.files.Published.TheVariants as published
+
+-- for every root and final file whose temporary name this is: own steps of these kinds, proper wherever all steps before them are;
+-- begun where Pre held, and where all steps are proper, the call ends where Post holds
+abbrev pub CallsOn : List ℕ → PathView → (Kinds : Move → Type 0) → (Pre Post : PathView → State → Type 0) → History → History → Type 0
+CallsOn token temp Kinds Pre Post old new =
+    (root : PathView) (x : Final) → IsTemp root x token temp → Called (IsProper root) (IsProper root) token Kinds (Pre root) (Post root) old new
+
+-- ---- the temporary file
+
+-- one attempt at a temporary file: what it answers and does
+abbrev pub MakesFile : PathView → Opens → TempFile → State → Option Move → Type 0
+MakesFile temp opens (temp_file.File number) s own = Creates temp number.0 opens s own
+MakesFile temp opens temp_file.Skipped s own = (IsSome (place_at s temp) ⊎ (has_parent s temp ≡ false)) × (own ≡ None)
+MakesFile temp opens temp_file.Fault s own = MaybeCreates temp own
+MakesFile temp opens temp_file.NoMemory s own = MaybeCreates temp own
+
+-- the name is taken away, or named no file
+abbrev pub TakesAway : PathView → Taken → State → Option Move → Type 0
+TakesAway temp taken.Away s own = ((is_file s temp ≡ false) × (own ≡ None)) ⊎ (own ≡ Some (Remove temp))
+TakesAway temp taken.Fault s own = Maybe (Remove temp) own
+TakesAway temp taken.NoMemory s own = Maybe (Remove temp) own
+
+-- what is open after a temporary file was made or not; told by every folder
+abbrev pub TempOpens : TempFile → Opens → Opens → Type 0
+TempOpens (temp_file.File number) before after = OpensNew true number.0 before after
+TempOpens temp_file.Skipped before after = after ≡ before
+TempOpens temp_file.Fault before after = after ≡ before
+TempOpens temp_file.NoMemory before after = after ≡ before
+
+-- the node that is open is the own empty file
+abbrev pub TempLeft : List ℕ → PathView → Opens → TempFile → State → Type 0
+TempLeft token temp opens (temp_file.File number) s = (file : OpenFile) → opens number.0 ≡ Some file → IsOwnFile token temp file.node [] s
+TempLeft token temp opens temp_file.Skipped s = ⊤
+TempLeft token temp opens temp_file.Fault s = ⊤
+TempLeft token temp opens temp_file.NoMemory s = ⊤
+
+-- the temporary name names the node that is open
+abbrev pub TempNamed : PathView → Opens → TempFile → State → Type 0
+TempNamed temp opens (temp_file.File number) s = (file : OpenFile) → opens number.0 ≡ Some file → place_at s temp ≡ Some (File file.node)
+TempNamed temp opens temp_file.Skipped s = ⊤
+TempNamed temp opens temp_file.Fault s = ⊤
+TempNamed temp opens temp_file.NoMemory s = ⊤
+
+-- ---- its bytes
+
+-- the bytes stand behind those that were there
+abbrev pub BytesLeft : List ℕ → PathView → ℕ → List ℕ → Wrote → State → Type 0
+BytesLeft token temp n bytes wrote.All s = IsOwnFile token temp n bytes s
+BytesLeft token temp n bytes wrote.Fault s = ⊤
+BytesLeft token temp n bytes wrote.NoMemory s = ⊤
+
+-- ---- the final file
+
+-- the last of these steps is this one
+abbrev pub EndsIn : Event → Trace → Type 0
+EndsIn step steps = (before : Trace) × (steps ≡ before ++ step ∷ [])
+
+-- no folder has the final or the temporary name, as in every tidy state, and their folder is there
+pub record IsReady (last temp : PathView) (s : State) : Type 0 where
+  pub last_free : is_folder s last ≡ false
+  pub temp_free : is_folder s temp ≡ false
+  pub home : has_parent s last ≡ true
+
+-- Each own step is proper wherever all steps before it are, and each own rename gives the final name to these bytes.
+-- Skipped is answered only where another's step made or removed one of the names or their folder, if all was ready at the entry.
+pub record Publishes (root : PathView) (token : List ℕ) (last temp : PathView) (bytes : List ℕ) (old new : History) (result : Published) : Type 0 where
+  pub call : Called (IsProper root) (PutsThis root last bytes) token (IsFor last temp) (IsTidy root) Anywhere old new
+  pub skipped : result ≡ published.Skipped → IsReady last temp (now old) → TouchedByOther token (UsesNames last temp) (since old new)
+
+-- ---- alone
+
+-- all look-ups but those at these names are as before
+abbrev pub IsBeside : (PathView → Type 0) → State → State → Type 0
+IsBeside Uses before after = (p : PathView) → (Uses p → ⊥) → (place_at after p ≡ place_at before p) × (bytes_at after p ≡ bytes_at before p)
+
+-- the temporary name alone names the own unfrozen node, which has these bytes, and all else is as before
+pub record IsDraft (token : List ℕ) (temp : PathView) (n : ℕ) (bytes : List ℕ) (before after : State) : Type 0 where
+  pub named : place_at after temp ≡ Some (File n)
+  pub node : node_at after n ≡ Some (record { bytes = bytes; maker = token; frozen = false })
+  pub only : (p : PathView) → place_at after p ≡ Some (File n) → p ≡ temp
+  pub beside : IsBeside (λ p. p ≡ temp) before after
+
+-- the final name has the bytes, the temporary name is absent, and all else is as before
+pub record IsPublished (last temp : PathView) (bytes : List ℕ) (before after : State) : Type 0 where
+  pub has : bytes_at after last ≡ Some bytes
+  pub gone : place_at after temp ≡ None
+  pub beside : IsBeside (λ p. (p ≡ last) ⊎ (p ≡ temp)) before after
+
+-- where no other moved: the file that is open is a draft with no bytes
+abbrev pub TempAlone : List ℕ → PathView → Opens → TempFile → State → State → Type 0
+TempAlone token temp opens (temp_file.File number) before after = (file : OpenFile) → opens number.0 ≡ Some file → IsDraft token temp file.node [] before after
+TempAlone token temp opens temp_file.Skipped before after = ⊤
+TempAlone token temp opens temp_file.Fault before after = ⊤
+TempAlone token temp opens temp_file.NoMemory before after = ⊤
+
+abbrev pub BytesAlone : List ℕ → PathView → ℕ → List ℕ → Wrote → State → State → Type 0
+BytesAlone token temp n bytes wrote.All before after = IsDraft token temp n bytes before after
+BytesAlone token temp n bytes wrote.Fault before after = ⊤
+BytesAlone token temp n bytes wrote.NoMemory before after = ⊤

@@ -1,0 +1,306 @@
+// One cached call.
+ghost use Rattle.std.specs.Prelude.{◌≡◌, ◌≤◌, ◌⊎◌, ℕ, List, Some, None, Option, IsSome, IfOk, OnOk, IsTrue, IsUtf8, length};
+ghost use Rattle.jl_text.specs.Texts.{is_name};
+ghost use Rattle.jl_value.specs.Tree.{nesting};
+ghost use Rattle.jl_value.specs.Form.{tree_of};
+ghost use Rattle.jl_value.specs.Canonical.{text_of};
+ghost use Rattle.jl_value.specs.Key.{args_tree, key_of};
+ghost use Rattle.jl_value.specs.Proper.{IsProper as IsProperTree};
+ghost use Rattle.jl_value.specs.Library.{next_count, value as value_is};
+ghost use Rattle.jl_entry.specs.Moments.{IsMoment};
+ghost use Rattle.jl_entry.specs.Names.{root_of};
+ghost use Rattle.jl_laws.specs.Whole.{Answers};
+ghost use Rattle.jl_laws.specs.Tidy.{IsSound};
+ghost use Rattle.jl_laws.specs.Proper.{IsLawful};
+ghost use Rattle.jl_claims.specs.Claims.{Called as CallsFolder};
+ghost use Rattle.jl_store.specs.Keeping.{IsKeepable};
+ghost use Rattle.jl_store.specs.Cached.{AnyMove, IsAnswer, CountsCall, IsMissed};
+ghost use Rattle.jl_store.specs.Trust.{IsTrusted};
+
+use crate::answer::Keep;
+use crate::checking::check_code;
+use crate::checks::CodeCheck;
+use crate::found::Look;
+use crate::keeping::{keep, touch};
+use crate::looking::{look, warn};
+use crate::memory::{Memory, WarnKind, Warning};
+use jl_folder::{Folder, Text};
+use jl_streams::Host;
+use jl_value::{Args, Called, Key, Library, Outcome, TaskError, Value, digest};
+use std::alloc::{AllocError, Global};
+
+/// What a cached call answers.
+#[derive(Drop)]
+pub enum Cached {
+    Hit(Value),
+    Computed(Value),
+    Error(TaskError),
+    NoMemory,
+}
+
+// A function's code, and the number of its line in the module.
+#[derive(Drop)]
+struct Code {
+    text: Text,
+    line: u64,
+}
+
+fn code_in<L: Library>(alloc: Global, lib: &L, name: &str) -> Result<Code, AllocError>
+    requires { IsSome (L.code (L.loaded lib.now) name.now) }
+    ensures code { IfOk result (λ c. L.code (L.loaded lib.now) name.now ≡ Some c.text) }
+    ensures line { IfOk result (λ c. L.line (L.loaded lib.now) name.now ≡ c.line) }
+{
+    let found = lib.code_of(name).unwrap();
+    let text = Text::new(String::from_str(alloc, found.code)?);
+    Ok(Code {
+        text,
+        line: found.line,
+    })
+}
+
+// Warns of what kept an entry from being stored.
+fn warn_of(
+    alloc: Global,
+    warnings: &mut Vec<Warning>,
+    keep: Keep,
+    name: &str,
+    key: &Key,
+) -> Result<(), AllocError> {
+    match keep {
+        Keep::Kept => Ok(()),
+        Keep::Skipped => warn(alloc, warnings, WarnKind::Skipped, name, Key(key.0)),
+        Keep::Fault => warn(alloc, warnings, WarnKind::StoreFault, name, Key(key.0)),
+        Keep::NoMemory => Err(AllocError),
+    }
+}
+
+// Warns of what kept the code's file from being checked.
+fn warn_of_check(
+    alloc: Global,
+    warnings: &mut Vec<Warning>,
+    check: CodeCheck,
+    name: &str,
+    key: &Key,
+) -> Result<(), AllocError> {
+    match check {
+        CodeCheck::Same => Ok(()),
+        CodeCheck::Written => Ok(()),
+        CodeCheck::Cleared => Ok(()),
+        CodeCheck::Skipped => warn(alloc, warnings, WarnKind::Skipped, name, Key(key.0)),
+        CodeCheck::LoadFault => warn(alloc, warnings, WarnKind::LoadFault, name, Key(key.0)),
+        CodeCheck::StoreFault => warn(alloc, warnings, WarnKind::StoreFault, name, Key(key.0)),
+        CodeCheck::NoMemory => Err(AllocError),
+    }
+}
+
+// A value that was found, with the moment of this access kept.
+fn found<F: Folder, H: Host>(
+    alloc: Global,
+    memory: &Memory,
+    folder: &mut F,
+    host: &mut H,
+    name: &str,
+    key: &Key,
+    value: Value,
+    warnings: &mut Vec<Warning>,
+) -> Cached
+    requires token { F.token folder.old ≡ memory.now.token }
+    requires module_name { IsTrue (is_name memory.now.«module») }
+    requires function_name { IsTrue (is_name name.now) }
+    ensures lawful { F.told folder.old → (answer : Answers) → CallsFolder (IsLawful (root_of memory.now.location) answer) (IsLawful (root_of memory.now.location) answer) (F.token folder.old) AnyMove
+        (IsSound (root_of memory.now.location) answer) (IsSound (root_of memory.now.location) answer) (F.history folder.old) (F.history folder.new) }
+    ensures found { (result ≡ Cached.Hit value) ⊎ (result ≡ Cached.NoMemory) }
+    ensures told { F.told folder.old → F.told folder.new }
+    ensures token { F.token folder.new ≡ F.token folder.old }
+    ensures opens { F.opens folder.new ≡ F.opens folder.old }
+    ensures faults { F.faults folder.old ≤ F.faults folder.new }
+    ensures host { H.token host.new ≡ H.token host.old }
+{
+    let moment = host.now();
+    let kept = touch(alloc, memory, folder, name, key, moment);
+    match warn_of(alloc, warnings, kept, name, key) {
+        Ok(()) => Cached::Hit(value),
+        Err(_) => Cached::NoMemory,
+    }
+}
+
+// A value that was computed, kept.
+fn computed<F: Folder>(
+    alloc: Global,
+    memory: &Memory,
+    folder: &mut F,
+    name: &str,
+    code: &str,
+    args: &Args,
+    value: Value,
+    duration: u64,
+    moment: u64,
+    warnings: &mut Vec<Warning>,
+) -> Cached
+    requires token { F.token folder.old ≡ memory.now.token }
+    requires module_name { IsTrue (is_name memory.now.«module») }
+    requires function_name { IsTrue (is_name name.now) }
+    requires keepable { IsKeepable code.now args.now (tree_of value) }
+    requires args_proper { IsProperTree (args_tree args.now) }
+    requires value_proper { IsProperTree (tree_of value) }
+    requires duration { IsMoment duration }
+    requires moment { IsMoment moment }
+    ensures lawful { F.told folder.old → (answer : Answers) → answer code.now args.now ≡ value_is (tree_of value) → CallsFolder (IsLawful (root_of memory.now.location) answer) (IsLawful (root_of memory.now.location) answer) (F.token folder.old) AnyMove
+        (IsSound (root_of memory.now.location) answer) (IsSound (root_of memory.now.location) answer) (F.history folder.old) (F.history folder.new) }
+    ensures computed { (result ≡ Cached.Computed value) ⊎ (result ≡ Cached.NoMemory) }
+    ensures told { F.told folder.old → F.told folder.new }
+    ensures token { F.token folder.new ≡ F.token folder.old }
+    ensures opens { F.opens folder.new ≡ F.opens folder.old }
+    ensures faults { F.faults folder.old ≤ F.faults folder.new }
+{
+    let Ok(key) = digest(alloc, args) else {
+        return Cached::NoMemory;
+    };
+    let kept = keep(
+        alloc, memory, folder, name, code, args, &value, duration, moment,
+    );
+    match warn_of(alloc, warnings, kept, name, &key) {
+        Ok(()) => Cached::Computed(value),
+        Err(_) => Cached::NoMemory,
+    }
+}
+
+// Calls the function, and keeps its value.
+fn missed<L: Library, F: Folder, H: Host>(
+    alloc: Global,
+    memory: &Memory,
+    lib: &mut L,
+    folder: &mut F,
+    host: &mut H,
+    name: &str,
+    code: &str,
+    args: &Args,
+    warnings: &mut Vec<Warning>,
+) -> Cached
+    requires token { F.token folder.old ≡ memory.now.token }
+    requires module_name { IsTrue (is_name memory.now.«module») }
+    requires function_name { IsTrue (is_name name.now) }
+    requires defined { L.code (L.loaded lib.old) name.now ≡ Some code.now }
+    requires code { length code.now ≤ 1048576 }
+    requires proper { IsProperTree (args_tree args.now) }
+    requires depth { nesting (args_tree args.now) ≤ 64 }
+    requires size { length (text_of (args_tree args.now)) ≤ 1048576 }
+    ensures lawful { F.told folder.old → CallsFolder (IsLawful (root_of memory.now.location) L.answer) (IsLawful (root_of memory.now.location) L.answer) (F.token folder.old) AnyMove
+        (IsSound (root_of memory.now.location) L.answer) (IsSound (root_of memory.now.location) L.answer) (F.history folder.old) (F.history folder.new) }
+    ensures missed { IsMissed result (L.answer code.now args.now) (L.calls lib.old) (L.calls lib.new) }
+    ensures loaded { L.loaded lib.new ≡ L.loaded lib.old }
+    ensures told { F.told folder.old → F.told folder.new }
+    ensures token { F.token folder.new ≡ F.token folder.old }
+    ensures opens { F.opens folder.new ≡ F.opens folder.old }
+    ensures faults { F.faults folder.old ≤ F.faults folder.new }
+    ensures host { H.token host.new ≡ H.token host.old }
+{
+    let before = host.now();
+    let called = lib.call(alloc, name, args);
+    let after = host.now();
+    match called {
+        Called::Done(Outcome::Value(value)) => computed(
+            alloc,
+            memory,
+            folder,
+            name,
+            code,
+            args,
+            value,
+            after.saturating_sub(before),
+            after,
+            warnings,
+        ),
+        Called::Done(Outcome::Error(error)) => Cached::Error(error),
+        Called::NoMemory => Cached::NoMemory,
+    }
+}
+
+// Looks for the value, and else computes it.
+fn answered<L: Library, F: Folder, H: Host>(
+    alloc: Global,
+    memory: &Memory,
+    lib: &mut L,
+    folder: &mut F,
+    host: &mut H,
+    name: &str,
+    code: &str,
+    args: &Args,
+    key: &Key,
+    warnings: &mut Vec<Warning>,
+) -> Cached
+    requires token { F.token folder.old ≡ memory.now.token }
+    requires module_name { IsTrue (is_name memory.now.«module») }
+    requires function_name { IsTrue (is_name name.now) }
+    requires defined { L.code (L.loaded lib.old) name.now ≡ Some code.now }
+    requires code { length code.now ≤ 1048576 }
+    requires proper { IsProperTree (args_tree args.now) }
+    requires depth { nesting (args_tree args.now) ≤ 64 }
+    requires size { length (text_of (args_tree args.now)) ≤ 1048576 }
+    ensures lawful { F.told folder.old → CallsFolder (IsLawful (root_of memory.now.location) L.answer) (IsLawful (root_of memory.now.location) L.answer) (F.token folder.old) AnyMove
+        (IsSound (root_of memory.now.location) L.answer) (IsSound (root_of memory.now.location) L.answer) (F.history folder.old) (F.history folder.new) }
+    ensures answer { IsAnswer result (L.answer code.now args.now) (IsTrusted (root_of memory.now.location) L.answer (F.told folder.old) (F.history folder.old) (F.history folder.new)) }
+    ensures calls { CountsCall result (L.calls lib.old) (L.calls lib.new) }
+    ensures loaded { L.loaded lib.new ≡ L.loaded lib.old }
+    ensures told { F.told folder.old → F.told folder.new }
+    ensures token { F.token folder.new ≡ F.token folder.old }
+    ensures opens { F.opens folder.new ≡ F.opens folder.old }
+    ensures faults { F.faults folder.old ≤ F.faults folder.new }
+    ensures host { H.token host.new ≡ H.token host.old }
+{
+    match look(alloc, memory, folder, name, code, args, warnings) {
+        Look::Hit(value) => found(alloc, memory, folder, host, name, key, value, warnings),
+        Look::Miss => missed(alloc, memory, lib, folder, host, name, code, args, warnings),
+        Look::NoMemory => Cached::NoMemory,
+    }
+}
+
+/// Answers what the function of this name answers on these arguments: as an entry of the cache has it, or else by calling the
+/// function and keeping its value. The code's file is checked first, and what goes wrong with the cache is warned of.
+pub fn call_cached<L: Library, F: Folder, H: Host>(
+    alloc: Global,
+    memory: &Memory,
+    lib: &mut L,
+    folder: &mut F,
+    host: &mut H,
+    name: &str,
+    args: &Args,
+    warnings: &mut Vec<Warning>,
+) -> Cached
+    requires token { F.token folder.old ≡ memory.now.token }
+    requires module_name { IsTrue (is_name memory.now.«module») }
+    requires function_name { IsTrue (is_name name.now) }
+    requires defined { IsSome (L.code (L.loaded lib.old) name.now) }
+    requires module_size { length (L.loaded lib.old) ≤ 1048576 }
+    requires proper { IsProperTree (args_tree args.now) }
+    requires depth { nesting (args_tree args.now) ≤ 64 }
+    requires size { length (text_of (args_tree args.now)) ≤ 1048576 }
+    // Lawful throughout, whatever others do.
+    ensures lawful { F.told folder.old → CallsFolder (IsLawful (root_of memory.now.location) L.answer) (IsLawful (root_of memory.now.location) L.answer) (F.token folder.old) AnyMove
+        (IsSound (root_of memory.now.location) L.answer) (IsSound (root_of memory.now.location) L.answer) (F.history folder.old) (F.history folder.new) }
+    // A value or an error is the library's answer; of a value that was found this rests on the folder.
+    ensures answer { (c : List ℕ) → L.code (L.loaded lib.old) name.now ≡ Some c
+        → IsAnswer result (L.answer c args.now) (IsTrusted (root_of memory.now.location) L.answer (F.told folder.old) (F.history folder.old) (F.history folder.new)) }
+    ensures calls { CountsCall result (L.calls lib.old) (L.calls lib.new) }
+    ensures loaded { L.loaded lib.new ≡ L.loaded lib.old }
+    ensures told { F.told folder.old → F.told folder.new }
+    ensures token { F.token folder.new ≡ F.token folder.old }
+    ensures opens { F.opens folder.new ≡ F.opens folder.old }
+    ensures faults { F.faults folder.old ≤ F.faults folder.new }
+    ensures host { H.token host.new ≡ H.token host.old }
+{
+    let Ok(code) = code_in(alloc, lib, name) else {
+        return Cached::NoMemory;
+    };
+    let Ok(key) = digest(alloc, args) else {
+        return Cached::NoMemory;
+    };
+    let text = code.text.as_str();
+    let check = check_code(alloc, memory, folder, name, text, code.line);
+    match warn_of_check(alloc, warnings, check, name, &key) {
+        Ok(()) => answered(
+            alloc, memory, lib, folder, host, name, text, args, &key, warnings,
+        ),
+        Err(_) => Cached::NoMemory,
+    }
+}

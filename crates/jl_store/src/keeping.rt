@@ -1,0 +1,345 @@
+// Keeping an answer.
+ghost use Rattle.std.specs.Prelude.{◌≡◌, ◌≢◌, ◌⊎◌, ℕ, List, true, IfOk, IsTrue, ⊤};
+ghost use Rattle.hex.specs.Hex.{encode_lower};
+ghost use Rattle.jl_text.specs.Texts.{is_name};
+ghost use Rattle.jl_folder.specs.State.{is_folder, now, since};
+ghost use Rattle.jl_text.specs.Counts.{Faults};
+ghost use Rattle.jl_value.specs.Form.{tree_of};
+ghost use Rattle.jl_value.specs.Key.{key_of};
+ghost use Rattle.jl_entry.specs.Moments.{IsMoment, access_text};
+ghost use Rattle.jl_entry.specs.Names.{root_of, IsFinal, IsTemp};
+ghost use Rattle.jl_claims.specs.Steps.{IsLone};
+ghost use Rattle.jl_claims.specs.Claims.{GoesOn};
+ghost use Rattle.jl_claims.specs.Touches.{TouchedByOther};
+ghost use Rattle.jl_laws.specs.Tidy.{IsTidy};
+ghost use Rattle.jl_laws.specs.Whole.{IsWhole};
+ghost use Rattle.jl_store.specs.Kinds.{UsesNames};
+ghost use Rattle.jl_store.specs.Publishing.{IsBeside, IsPublished};
+ghost use Rattle.jl_store.specs.Keeping.{entry_in, entry_path, function_path, file_of, last_of, temp_of, texts as texts_of, text_in, AreWhole, keep_of, made_of, IsKeepable, Keeps, KeepsFile, HasPutMoments, HasPutAll, IsMoments, IsAnyFile, Entry, UsesEntry, IsReadyFor, AreReady, IsReadyToKeep, IsReadyToTouch, HasFiles, HasEntry};
+ghost use Rattle.jl_store.specs.declared.keeping.EntryTexts.{EntryTexts};
+
+use crate::answer::Keep;
+use crate::files::{Published, publish};
+use crate::memory::Memory;
+use jl_entry::{
+    EntryFile, entry_file, entry_folder, temp_name, write_access, write_metadata, write_output,
+};
+use jl_folder::{Bytes, Folder, MadeDir, Path};
+use jl_value::{Args, Key, Value, digest};
+use std::alloc::{AllocError, Global};
+
+// A file's final name, and its temporary one.
+#[derive(Drop)]
+struct FileNames {
+    last: Path,
+    temp: Path,
+}
+
+// The texts of an entry's files.
+#[derive(Drop)]
+struct EntryTexts {
+    output: Bytes,
+    metadata: Bytes,
+    access: Bytes,
+}
+
+fn as_keep(published: Published) -> Keep
+    ensures { result ≡ keep_of published }
+{
+    match published {
+        Published::Done => Keep::Kept,
+        Published::Skipped => Keep::Skipped,
+        Published::Fault => Keep::Fault,
+        Published::NoMemory => Keep::NoMemory,
+    }
+}
+
+fn made(answer: MadeDir) -> Keep
+    ensures { result ≡ made_of answer }
+{
+    match answer {
+        MadeDir::Made => Keep::Kept,
+        MadeDir::Exists => Keep::Kept,
+        MadeDir::NoParent => Keep::Skipped,
+        MadeDir::Failed => Keep::Fault,
+        MadeDir::NoMemory => Keep::NoMemory,
+    }
+}
+
+// The names of a file of an entry.
+fn file_names(
+    alloc: Global,
+    memory: &Memory,
+    file: EntryFile,
+    name: &str,
+    key: &Key,
+) -> Result<FileNames, AllocError>
+    requires module_name { IsTrue (is_name memory.now.«module») }
+    requires function_name { IsTrue (is_name name.now) }
+    ensures last { IfOk result (λ n. IsFinal (root_of memory.now.location) (file_of (entry_in memory.now name.now key.now.0) file) n.last) }
+    ensures temp { IfOk result (λ n. IsTemp (root_of memory.now.location) (file_of (entry_in memory.now name.now key.now.0) file) memory.now.token n.temp) }
+{
+    let module = memory.module.as_str();
+    let last = entry_file(alloc, file, &memory.location, module, name, key)?;
+    let temp = temp_name(alloc, &last, &memory.token)?;
+    Ok(FileNames { last, temp })
+}
+
+// Publishes one file of an entry.
+fn keep_file<F: Folder>(
+    alloc: Global,
+    memory: &Memory,
+    folder: &mut F,
+    file: EntryFile,
+    name: &str,
+    key: &Key,
+    bytes: &[u8],
+) -> Keep
+    requires token { F.token folder.old ≡ memory.now.token }
+    requires module_name { IsTrue (is_name memory.now.«module») }
+    requires function_name { IsTrue (is_name name.now) }
+    ensures told { F.told folder.old → F.told folder.new }
+    ensures goes { F.told folder.old → GoesOn (F.history folder.old) (F.history folder.new) }
+    ensures token { F.token folder.new ≡ F.token folder.old }
+    ensures opens { F.opens folder.new ≡ F.opens folder.old }
+    ensures faults { Faults (F.faults folder.old) (F.faults folder.new) (result ≡ Keep.Fault) }
+    ensures called { F.told folder.old → IsWhole (file_of (entry_in memory.now name.now key.now.0) file) bytes.now →
+        KeepsFile (entry_in memory.now name.now key.now.0) (F.token folder.old) file bytes.now (IsReadyFor (entry_in memory.now name.now key.now.0) (F.token folder.old) file) (F.history folder.old) (F.history folder.new) result }
+    ensures tidy { F.told folder.old → IsWhole (file_of (entry_in memory.now name.now key.now.0) file) bytes.now → result ≡ Keep.Skipped → IsReadyToTouch (entry_in memory.now name.now key.now.0) (now (F.history folder.old)) →
+        TouchedByOther (F.token folder.old) (UsesNames (last_of (entry_in memory.now name.now key.now.0) file) (temp_of (entry_in memory.now name.now key.now.0) (F.token folder.old) file)) (since (F.history folder.old) (F.history folder.new)) }
+    ensures alone { F.told folder.old → result ≡ Keep.Kept → IsLone (F.token folder.old) (since (F.history folder.old) (F.history folder.new)) →
+        IsPublished (last_of (entry_in memory.now name.now key.now.0) file) (temp_of (entry_in memory.now name.now key.now.0) (F.token folder.old) file) bytes.now (now (F.history folder.old)) (now (F.history folder.new)) }
+{
+    match file_names(alloc, memory, file, name, key) {
+        Ok(names) => as_keep(publish(folder, &names.last, &names.temp, bytes)),
+        Err(_) => Keep::NoMemory,
+    }
+}
+
+// Makes the entry's folder, if it isn't there.
+fn make_entry<F: Folder>(
+    alloc: Global,
+    memory: &Memory,
+    folder: &mut F,
+    name: &str,
+    key: &Key,
+) -> Keep
+    requires token { F.token folder.old ≡ memory.now.token }
+    requires module_name { IsTrue (is_name memory.now.«module») }
+    requires function_name { IsTrue (is_name name.now) }
+    ensures told { F.told folder.old → F.told folder.new }
+    ensures goes { F.told folder.old → GoesOn (F.history folder.old) (F.history folder.new) }
+    ensures token { F.token folder.new ≡ F.token folder.old }
+    ensures opens { F.opens folder.new ≡ F.opens folder.old }
+    ensures faults { Faults (F.faults folder.old) (F.faults folder.new) (result ≡ Keep.Fault) }
+    ensures called { F.told folder.old → (text : EntryFile → List ℕ) →
+        Keeps (entry_in memory.now name.now key.now.0) (F.token folder.old) text (λ s. is_folder s (function_path (entry_in memory.now name.now key.now.0)) ≡ true) (λ steps. ⊤) (F.history folder.old) (F.history folder.new) result }
+    ensures ready { F.told folder.old → result ≡ Keep.Kept → IsTidy (root_of memory.now.location) (now (F.history folder.old)) →
+        AreReady (entry_in memory.now name.now key.now.0) (F.token folder.old) IsAnyFile (now (F.history folder.new)) ⊎ TouchedByOther (F.token folder.old) (UsesEntry (entry_in memory.now name.now key.now.0) (F.token folder.old)) (since (F.history folder.old) (F.history folder.new)) }
+    ensures alone { F.told folder.old → result ≡ Keep.Kept → IsLone (F.token folder.old) (since (F.history folder.old) (F.history folder.new)) → IsBeside (λ p. p ≡ entry_path (entry_in memory.now name.now key.now.0)) (now (F.history folder.old)) (now (F.history folder.new)) }
+{
+    match entry_folder(alloc, &memory.location, memory.module.as_str(), name, key) {
+        Ok(path) => made(folder.make_dir(&path)),
+        Err(_) => Keep::NoMemory,
+    }
+}
+
+// Publishes the metadata and the last access.
+fn keep_moments<F: Folder>(
+    alloc: Global,
+    memory: &Memory,
+    folder: &mut F,
+    name: &str,
+    key: &Key,
+    texts: &EntryTexts,
+) -> Keep
+    requires token { F.token folder.old ≡ memory.now.token }
+    requires module_name { IsTrue (is_name memory.now.«module») }
+    requires function_name { IsTrue (is_name name.now) }
+    ensures told { F.told folder.old → F.told folder.new }
+    ensures goes { F.told folder.old → GoesOn (F.history folder.old) (F.history folder.new) }
+    ensures token { F.token folder.new ≡ F.token folder.old }
+    ensures opens { F.opens folder.new ≡ F.opens folder.old }
+    ensures faults { Faults (F.faults folder.old) (F.faults folder.new) (result ≡ Keep.Fault) }
+    ensures called { F.told folder.old → AreWhole (entry_in memory.now name.now key.now.0) (text_in texts.now) →
+        Keeps (entry_in memory.now name.now key.now.0) (F.token folder.old) (text_in texts.now) (AreReady (entry_in memory.now name.now key.now.0) (F.token folder.old) IsMoments) (HasPutMoments (entry_in memory.now name.now key.now.0) (F.token folder.old)) (F.history folder.old) (F.history folder.new) result }
+    ensures alone { F.told folder.old → AreWhole (entry_in memory.now name.now key.now.0) (text_in texts.now) → result ≡ Keep.Kept → IsLone (F.token folder.old) (since (F.history folder.old) (F.history folder.new)) →
+        HasFiles (entry_in memory.now name.now key.now.0) (F.token folder.old) (text_in texts.now) IsMoments (now (F.history folder.old)) (now (F.history folder.new)) }
+{
+    let metadata = texts.metadata.as_slice();
+    match keep_file(
+        alloc,
+        memory,
+        folder,
+        EntryFile::Metadata,
+        name,
+        key,
+        metadata,
+    ) {
+        Keep::Kept => {
+            let access = texts.access.as_slice();
+            keep_file(alloc, memory, folder, EntryFile::Access, name, key, access)
+        }
+        Keep::Skipped => Keep::Skipped,
+        Keep::Fault => Keep::Fault,
+        Keep::NoMemory => Keep::NoMemory,
+    }
+}
+
+// Publishes the three files, the output first.
+fn keep_files<F: Folder>(
+    alloc: Global,
+    memory: &Memory,
+    folder: &mut F,
+    name: &str,
+    key: &Key,
+    texts: &EntryTexts,
+) -> Keep
+    requires token { F.token folder.old ≡ memory.now.token }
+    requires module_name { IsTrue (is_name memory.now.«module») }
+    requires function_name { IsTrue (is_name name.now) }
+    ensures told { F.told folder.old → F.told folder.new }
+    ensures goes { F.told folder.old → GoesOn (F.history folder.old) (F.history folder.new) }
+    ensures token { F.token folder.new ≡ F.token folder.old }
+    ensures opens { F.opens folder.new ≡ F.opens folder.old }
+    ensures faults { Faults (F.faults folder.old) (F.faults folder.new) (result ≡ Keep.Fault) }
+    ensures called { F.told folder.old → AreWhole (entry_in memory.now name.now key.now.0) (text_in texts.now) →
+        Keeps (entry_in memory.now name.now key.now.0) (F.token folder.old) (text_in texts.now) (AreReady (entry_in memory.now name.now key.now.0) (F.token folder.old) IsAnyFile) (HasPutAll (entry_in memory.now name.now key.now.0) (F.token folder.old)) (F.history folder.old) (F.history folder.new) result }
+    ensures alone { F.told folder.old → AreWhole (entry_in memory.now name.now key.now.0) (text_in texts.now) → result ≡ Keep.Kept → IsLone (F.token folder.old) (since (F.history folder.old) (F.history folder.new)) →
+        HasFiles (entry_in memory.now name.now key.now.0) (F.token folder.old) (text_in texts.now) IsAnyFile (now (F.history folder.old)) (now (F.history folder.new)) }
+{
+    let output = texts.output.as_slice();
+    match keep_file(alloc, memory, folder, EntryFile::Output, name, key, output) {
+        Keep::Kept => keep_moments(alloc, memory, folder, name, key, texts),
+        Keep::Skipped => Keep::Skipped,
+        Keep::Fault => Keep::Fault,
+        Keep::NoMemory => Keep::NoMemory,
+    }
+}
+
+// Makes the folder, and publishes the files in it.
+fn keep_texts<F: Folder>(
+    alloc: Global,
+    memory: &Memory,
+    folder: &mut F,
+    name: &str,
+    key: &Key,
+    texts: &EntryTexts,
+) -> Keep
+    requires token { F.token folder.old ≡ memory.now.token }
+    requires module_name { IsTrue (is_name memory.now.«module») }
+    requires function_name { IsTrue (is_name name.now) }
+    ensures told { F.told folder.old → F.told folder.new }
+    ensures goes { F.told folder.old → GoesOn (F.history folder.old) (F.history folder.new) }
+    ensures token { F.token folder.new ≡ F.token folder.old }
+    ensures opens { F.opens folder.new ≡ F.opens folder.old }
+    ensures faults { Faults (F.faults folder.old) (F.faults folder.new) (result ≡ Keep.Fault) }
+    ensures called { F.told folder.old → AreWhole (entry_in memory.now name.now key.now.0) (text_in texts.now) →
+        Keeps (entry_in memory.now name.now key.now.0) (F.token folder.old) (text_in texts.now) (IsReadyToKeep (entry_in memory.now name.now key.now.0)) (HasPutAll (entry_in memory.now name.now key.now.0) (F.token folder.old)) (F.history folder.old) (F.history folder.new) result }
+    ensures alone { F.told folder.old → AreWhole (entry_in memory.now name.now key.now.0) (text_in texts.now) → result ≡ Keep.Kept → IsLone (F.token folder.old) (since (F.history folder.old) (F.history folder.new)) →
+        HasEntry (entry_in memory.now name.now key.now.0) (F.token folder.old) (text_in texts.now) (now (F.history folder.old)) (now (F.history folder.new)) }
+{
+    match make_entry(alloc, memory, folder, name, key) {
+        Keep::Kept => keep_files(alloc, memory, folder, name, key, texts),
+        Keep::Skipped => Keep::Skipped,
+        Keep::Fault => Keep::Fault,
+        Keep::NoMemory => Keep::NoMemory,
+    }
+}
+
+// The texts of the three files.
+fn entry_texts(
+    alloc: Global,
+    code: &str,
+    args: &Args,
+    value: &Value,
+    duration: u64,
+    moment: u64,
+) -> Result<EntryTexts, AllocError>
+    requires keepable { IsKeepable code.now args.now (tree_of value.now) }
+    requires duration { IsMoment duration }
+    requires moment { IsMoment moment }
+    ensures texts { IfOk result (λ t. (file : EntryFile) → text_in t file ≡ texts_of code.now args.now (tree_of value.now) duration moment file) }
+    ensures whole { (e : Entry) → e.key ≡ encode_lower (key_of args.now) → IfOk result (λ t. AreWhole e (text_in t)) }
+{
+    let output = write_output(alloc, code, args, value)?;
+    let metadata = write_metadata(alloc, duration, moment)?;
+    let access = write_access(alloc, moment)?;
+    Ok(EntryTexts {
+        output,
+        metadata,
+        access,
+    })
+}
+
+/// Keeps an answer: makes the entry's folder and publishes the output, the metadata and the last access; the first that is skipped or fails ends it.
+/// The duration and the moment are in microseconds. It knows no library: whether the value is the code's answer is the caller's part.
+pub fn keep<F: Folder>(
+    alloc: Global,
+    memory: &Memory,
+    folder: &mut F,
+    name: &str,
+    code: &str,
+    args: &Args,
+    value: &Value,
+    duration: u64,
+    moment: u64,
+) -> Keep
+    requires token { F.token folder.old ≡ memory.now.token }
+    requires module_name { IsTrue (is_name memory.now.«module») }
+    requires function_name { IsTrue (is_name name.now) }
+    requires keepable { IsKeepable code.now args.now (tree_of value.now) }
+    requires duration { IsMoment duration }
+    requires moment { IsMoment moment }
+    ensures told { F.told folder.old → F.told folder.new }
+    ensures goes { F.told folder.old → GoesOn (F.history folder.old) (F.history folder.new) }
+    ensures token { F.token folder.new ≡ F.token folder.old }
+    ensures opens { F.opens folder.new ≡ F.opens folder.old }
+    ensures faults { Faults (F.faults folder.old) (F.faults folder.new) (result ≡ Keep.Fault) }
+    ensures called { F.told folder.old → Keeps (entry_in memory.now name.now (key_of args.now)) (F.token folder.old) (texts_of code.now args.now (tree_of value.now) duration moment) (IsReadyToKeep (entry_in memory.now name.now (key_of args.now))) (HasPutAll (entry_in memory.now name.now (key_of args.now)) (F.token folder.old)) (F.history folder.old) (F.history folder.new) result }
+    ensures alone { F.told folder.old → result ≡ Keep.Kept → IsLone (F.token folder.old) (since (F.history folder.old) (F.history folder.new)) → HasEntry (entry_in memory.now name.now (key_of args.now)) (F.token folder.old) (texts_of code.now args.now (tree_of value.now) duration moment) (now (F.history folder.old)) (now (F.history folder.new)) }
+{
+    let Ok(key) = digest(alloc, args) else {
+        return Keep::NoMemory;
+    };
+    let Ok(texts) = entry_texts(alloc, code, args, value, duration, moment) else {
+        return Keep::NoMemory;
+    };
+    keep_texts(alloc, memory, folder, name, &key, &texts)
+}
+
+/// Publishes the last access of an entry alone. The moment is in microseconds.
+pub fn touch<F: Folder>(
+    alloc: Global,
+    memory: &Memory,
+    folder: &mut F,
+    name: &str,
+    key: &Key,
+    moment: u64,
+) -> Keep
+    requires token { F.token folder.old ≡ memory.now.token }
+    requires module_name { IsTrue (is_name memory.now.«module») }
+    requires function_name { IsTrue (is_name name.now) }
+    requires moment { IsMoment moment }
+    ensures told { F.told folder.old → F.told folder.new }
+    ensures goes { F.told folder.old → GoesOn (F.history folder.old) (F.history folder.new) }
+    ensures token { F.token folder.new ≡ F.token folder.old }
+    ensures opens { F.opens folder.new ≡ F.opens folder.old }
+    ensures faults { Faults (F.faults folder.old) (F.faults folder.new) (result ≡ Keep.Fault) }
+    ensures called { F.told folder.old → KeepsFile (entry_in memory.now name.now key.now.0) (F.token folder.old) EntryFile.Access (access_text moment) (IsReadyToTouch (entry_in memory.now name.now key.now.0)) (F.history folder.old) (F.history folder.new) result }
+    ensures alone { F.told folder.old → result ≡ Keep.Kept → IsLone (F.token folder.old) (since (F.history folder.old) (F.history folder.new)) →
+        IsPublished (last_of (entry_in memory.now name.now key.now.0) EntryFile.Access) (temp_of (entry_in memory.now name.now key.now.0) (F.token folder.old) EntryFile.Access) (access_text moment) (now (F.history folder.old)) (now (F.history folder.new)) }
+{
+    match write_access(alloc, moment) {
+        Ok(bytes) => keep_file(
+            alloc,
+            memory,
+            folder,
+            EntryFile::Access,
+            name,
+            key,
+            bytes.as_slice(),
+        ),
+        Err(_) => Keep::NoMemory,
+    }
+}
