@@ -1,34 +1,36 @@
 -- What the endings of a run tell.
-use Rattle.std.proofs.Common.{◌≡◌, ◌∙◌, ◌⊎◌, ◌++◌, ℕ, List, [], Option, Some, None, ap, subst, sym, refl, inl, inr, arith, append-nil, false}
+use Rattle.std.proofs.Common.{◌≡◌, ◌≤◌, ◌∙◌, ◌⊎◌, ◌++◌, ℕ, List, [], Option, Some, None, ap, subst, sym, refl, inl, inr, arith, append-nil, false}
 use Rattle.jl_text.specs.Paths.{PathView}
 use Rattle.jl_folder.specs.State.{is_file, AtSome}
 use Rattle.jl_text.specs.Counts.{Rose}
-use Rattle.jl_streams.specs.Streams.{WritesAll}
+use Rattle.jl_streams.specs.Streams.{WritesAll, WritesPrefix}
 use Rattle.jl_streams.specs.declared.sink.WroteAll.{WroteAll}
 use Rattle.jl_streams.specs.declared.sink.WroteAll.TheVariants.{Done as Wrote, Fault}
-use Rattle.jl_words.specs.declared.types.Settings.{Settings}
+use Rattle.jl_cmd.specs.Commands.{Command}
 use Rattle.jl_cmd.specs.declared.ended.Ended.{Ended}
 use Rattle.jl_cmd.specs.declared.ended.Ended.TheVariants.{Done, Failed, Usage, Refused, WriteFault, NoMemory, NoModule, FolderFault}
 use Rattle.jl_cmd.specs.Output.{Output, module_of}
-use Rattle.jl_cmd.specs.Endings.{Scene, ReadsModule, LacksModule, Finishes, CommandEnds, RunEnds, status_of, last_text}
+use Rattle.jl_cmd.specs.Endings.{Scene, Tells, ReadsModule, LacksModule, Finishes, CommandEnds, RunEnds, status_of, last_text}
 use Rattle.jl_cmd.specs.Promises.{IsWhole, IsSilent, IsStatus, Answers, AnswersFront, CountsCalls, text_of_status}
-use Rattle.jl_words.specs.declared.types.Settings.TheVariants.{Call, Hash}
-use Rattle.jl_cmd.specs.Run.{Calls, GivenCalls, AreCalling}
+use Rattle.jl_cmd.specs.Commands.{call, hash}
+use Rattle.jl_cmd.specs.declared.computed.Computed.{Computed}
+use Rattle.jl_cmd.specs.declared.computed.Computed.TheVariants as computed
+use Rattle.jl_cmd.specs.Run.{Computes, Writes, WritesWarned, Calls, GivenCalls, AreCalling}
 
 -- an output that was computed from the module read, and written
-pub finishes_command : (output : List ℕ → Output) (path : Option PathView) (F O : Type 0) (x : Scene) (e : Ended) (m : List ℕ) → (F → ReadsModule path m x) → Finishes (output m) O x e → CommandEnds output path F O x e
-finishes_command output path F O x Done m reads h = (m, reads, h)
-finishes_command output path F O x (Failed t) m reads h = (m, reads, h)
-finishes_command output path F O x (Refused t) m reads h = (m, reads, h)
-finishes_command output path F O x WriteFault m reads h = (m, reads, h)
-finishes_command output path F O x NoMemory m reads h = h
-finishes_command output path F O x Usage m reads h = h
-finishes_command output path F O x NoModule m reads h = absurd h
-finishes_command output path F O x FolderFault m reads h = absurd h
+pub finishes_command : (output : List ℕ → Output) (path : Option PathView) (T : Tells) (x : Scene) (e : Ended) (m : List ℕ) → (T.folder → ReadsModule path m x) → Finishes (output m) T x e → CommandEnds output path T x e
+finishes_command output path T x Done m reads h = (m, reads, h)
+finishes_command output path T x (Failed t) m reads h = (m, reads, h)
+finishes_command output path T x (Refused t) m reads h = (m, reads, h)
+finishes_command output path T x WriteFault m reads h = (m, reads, h)
+finishes_command output path T x NoMemory m reads h = h
+finishes_command output path T x Usage m reads h = h
+finishes_command output path T x NoModule m reads h = absurd h
+finishes_command output path T x FolderFault m reads h = absurd h
 
 -- a run that was given settings ended as their command did
-abbrev given_ends : (output : Settings → List ℕ → Output) (given : Option Settings) (F O : Type 0) (x : Scene) (e : Ended) (s : Settings) → given ≡ Some s → RunEnds output given F O x e → RunEnds output (Some s) F O x e
-given_ends output given F O x e s is ends = subst (λ (g : Option Settings). RunEnds output g F O x e) is ends
+abbrev given_ends : (output : Command → List ℕ → Output) (given : Option Command) (T : Tells) (x : Scene) (e : Ended) (s : Command) → given ≡ Some s → RunEnds output given T x e → RunEnds output (Some s) T x e
+given_ends output given T x e s is ends = subst (λ (g : Option Command). RunEnds output g T x e) is ends
 
 pub is_status : (e : Ended) → IsStatus (status_of e)
 is_status Done = inl (inl refl)
@@ -48,110 +50,124 @@ none_of_three n a b c na nb nc h = elim h [ inl e ↦ na e | inr h' ↦ elim h' 
 none_of_four : (n a b c d : ℕ) → (n ≡ a → ⊥) → (n ≡ b → ⊥) → (n ≡ c → ⊥) → (n ≡ d → ⊥) → (n ≡ a) ⊎ ((n ≡ b) ⊎ ((n ≡ c) ⊎ (n ≡ d))) → ⊥
 none_of_four n a b c d na nb nc nd h = elim h [ inl e ↦ na e | inr h' ↦ none_of_three n b c d nb nc nd h' ]
 
-abbrev Clear : Type 0 → List ℕ → List ℕ → Ended → Type 0
-Clear E errors errors' e = E → errors' ≡ errors ++ last_text e
-
 -- at a whole output the module's own output stands
-pub answers_whole : (output : Settings → List ℕ → Output) (given : Option Settings) (F O E : Type 0) (x : Scene) (errors errors' : List ℕ) (e : Ended) (s : Settings) → given ≡ Some s → RunEnds output given F O x e → (E → errors' ≡ errors ++ last_text e) → IsWhole (status_of e) → Answers (output s) (module_of s) F O E x errors errors' (status_of e)
-answers_whole output given F O E x errors errors' Done s is ends said whole =
-    let h = given_ends output given F O x Done s is ends in
-    record { bytes = h.0; reads = h.1; status = h.2.0; written = h.2.2; text = λ c. said c ∙ ap (λ t. errors ++ t) (sym h.2.1) }
-answers_whole output given F O E x errors errors' (Failed t) s is ends said whole =
-    let h = given_ends output given F O x (Failed t) s is ends in
-    record { bytes = h.0; reads = h.1; status = ap (λ o. o.status) h.2.0; written = λ o. h.2.1 o ∙ sym (append-nil _) ∙ ap (λ b. x.written ++ b) (sym (ap (λ o. o.bytes) h.2.0)); text = λ c. said c ∙ ap (λ b. errors ++ b) (sym (ap (λ o. o.text) h.2.0)) }
-answers_whole output given F O E x errors errors' (Refused t) s is ends said whole =
-    let h = given_ends output given F O x (Refused t) s is ends in
-    record { bytes = h.0; reads = h.1; status = ap (λ o. o.status) h.2.0; written = λ o. h.2.1 o ∙ sym (append-nil _) ∙ ap (λ b. x.written ++ b) (sym (ap (λ o. o.bytes) h.2.0)); text = λ c. said c ∙ ap (λ b. errors ++ b) (sym (ap (λ o. o.text) h.2.0)) }
-answers_whole output given F O E x errors errors' Usage s is ends said whole = absurd (none_of_three 2 0 1 3 (λ e. omega arith) (λ e. omega arith) (λ e. omega arith) whole)
-answers_whole output given F O E x errors errors' WriteFault s is ends said whole = absurd (none_of_three 6 0 1 3 (λ e. omega arith) (λ e. omega arith) (λ e. omega arith) whole)
-answers_whole output given F O E x errors errors' NoMemory s is ends said whole = absurd (none_of_three 8 0 1 3 (λ e. omega arith) (λ e. omega arith) (λ e. omega arith) whole)
-answers_whole output given F O E x errors errors' NoModule s is ends said whole = absurd (none_of_three 9 0 1 3 (λ e. omega arith) (λ e. omega arith) (λ e. omega arith) whole)
-answers_whole output given F O E x errors errors' FolderFault s is ends said whole = absurd (none_of_three 10 0 1 3 (λ e. omega arith) (λ e. omega arith) (λ e. omega arith) whole)
+pub answers_whole : (output : Command → List ℕ → Output) (given : Option Command) (T : Tells) (E : Type 0) (x : Scene) (warned errors errors' : List ℕ) (e : Ended) (s : Command) → given ≡ Some s → RunEnds output given T x e → T.cache → T.folder → (E → errors' ≡ errors ++ (warned ++ last_text e)) → IsWhole (status_of e) → Answers (output s) (module_of s) T.out E x warned errors errors' (status_of e)
+answers_whole output given T E x warned errors errors' Done s is ends cache told said whole =
+    let h = given_ends output given T x Done s is ends in
+    let k = h.2 cache in
+    record { bytes = h.0; reads = h.1 told; status = k.0; written = k.2; text = λ c. said c ∙ ap (λ t. errors ++ (warned ++ t)) (sym k.1) }
+answers_whole output given T E x warned errors errors' (Failed t) s is ends cache told said whole =
+    let h = given_ends output given T x (Failed t) s is ends in
+    record { bytes = h.0; reads = h.1 told; status = ap (λ o. o.status) h.2.0; written = λ o. h.2.1 o ∙ sym (append-nil _) ∙ ap (λ b. x.written ++ b) (sym (ap (λ o. o.bytes) h.2.0)); text = λ c. said c ∙ ap (λ b. errors ++ (warned ++ b)) (sym (ap (λ o. o.text) h.2.0)) }
+answers_whole output given T E x warned errors errors' (Refused t) s is ends cache told said whole =
+    let h = given_ends output given T x (Refused t) s is ends in
+    record { bytes = h.0; reads = h.1 told; status = ap (λ o. o.status) h.2.0; written = λ o. h.2.1 o ∙ sym (append-nil _) ∙ ap (λ b. x.written ++ b) (sym (ap (λ o. o.bytes) h.2.0)); text = λ c. said c ∙ ap (λ b. errors ++ (warned ++ b)) (sym (ap (λ o. o.text) h.2.0)) }
+answers_whole output given T E x warned errors errors' Usage s is ends cache told said whole = absurd (none_of_three 2 0 1 3 (λ e. omega arith) (λ e. omega arith) (λ e. omega arith) whole)
+answers_whole output given T E x warned errors errors' WriteFault s is ends cache told said whole = absurd (none_of_three 6 0 1 3 (λ e. omega arith) (λ e. omega arith) (λ e. omega arith) whole)
+answers_whole output given T E x warned errors errors' NoMemory s is ends cache told said whole = absurd (none_of_three 8 0 1 3 (λ e. omega arith) (λ e. omega arith) (λ e. omega arith) whole)
+answers_whole output given T E x warned errors errors' NoModule s is ends cache told said whole = absurd (none_of_three 9 0 1 3 (λ e. omega arith) (λ e. omega arith) (λ e. omega arith) whole)
+answers_whole output given T E x warned errors errors' FolderFault s is ends cache told said whole = absurd (none_of_three 10 0 1 3 (λ e. omega arith) (λ e. omega arith) (λ e. omega arith) whole)
 
 -- at a write fault a front of it does
-pub answers_front : (output : Settings → List ℕ → Output) (given : Option Settings) (F O : Type 0) (x : Scene) (e : Ended) (s : Settings) → given ≡ Some s → RunEnds output given F O x e → status_of e ≡ 6 → AnswersFront (output s) (module_of s) F O x
-answers_front output given F O x WriteFault s is ends n =
-    let h = given_ends output given F O x WriteFault s is ends in
-    record { bytes = h.0; reads = h.1; status = h.2.0; rose = h.2.1; front = h.2.2 }
-answers_front output given F O x Done s is ends n = absurd (omega arith)
-answers_front output given F O x (Failed t) s is ends n = absurd (omega arith)
-answers_front output given F O x (Refused t) s is ends n = absurd (omega arith)
-answers_front output given F O x Usage s is ends n = absurd (omega arith)
-answers_front output given F O x NoMemory s is ends n = absurd (omega arith)
-answers_front output given F O x NoModule s is ends n = absurd (omega arith)
-answers_front output given F O x FolderFault s is ends n = absurd (omega arith)
+pub answers_front : (output : Command → List ℕ → Output) (given : Option Command) (T : Tells) (x : Scene) (e : Ended) (s : Command) → given ≡ Some s → RunEnds output given T x e → T.cache → T.folder → status_of e ≡ 6 → AnswersFront (output s) (module_of s) T.out x
+answers_front output given T x WriteFault s is ends cache told n =
+    let h = given_ends output given T x WriteFault s is ends in
+    let k = h.2.1 cache in
+    record { bytes = h.0; reads = h.1 told; status = k.0; front = k.1 }
+answers_front output given T x Done s is ends cache told n = absurd (omega arith)
+answers_front output given T x (Failed t) s is ends cache told n = absurd (omega arith)
+answers_front output given T x (Refused t) s is ends cache told n = absurd (omega arith)
+answers_front output given T x Usage s is ends cache told n = absurd (omega arith)
+answers_front output given T x NoMemory s is ends cache told n = absurd (omega arith)
+answers_front output given T x NoModule s is ends cache told n = absurd (omega arith)
+answers_front output given T x FolderFault s is ends cache told n = absurd (omega arith)
+
+fault_given : (output : Command → List ℕ → Output) (given : Option Command) (T : Tells) (x : Scene) → RunEnds output given T x WriteFault → Rose x.out_faults x.out_faults'
+fault_given output None T x ends = absurd ends
+fault_given output (Some s) T x ends = ends.2.0
+
+-- a write fault is told only where the output's faults rose
+pub write_fault_rose : (output : Command → List ℕ → Output) (given : Option Command) (T : Tells) (x : Scene) (e : Ended) → RunEnds output given T x e → status_of e ≡ 6 → Rose x.out_faults x.out_faults'
+write_fault_rose output given T x WriteFault ends n = fault_given output given T x ends
+write_fault_rose output given T x Done ends n = absurd (omega arith)
+write_fault_rose output given T x (Failed t) ends n = absurd (omega arith)
+write_fault_rose output given T x (Refused t) ends n = absurd (omega arith)
+write_fault_rose output given T x Usage ends n = absurd (omega arith)
+write_fault_rose output given T x NoMemory ends n = absurd (omega arith)
+write_fault_rose output given T x NoModule ends n = absurd (omega arith)
+write_fault_rose output given T x FolderFault ends n = absurd (omega arith)
 
 -- a usage error is told only where the words give no settings
-pub usage_only : (output : Settings → List ℕ → Output) (given : Option Settings) (F O : Type 0) (x : Scene) (e : Ended) → RunEnds output given F O x e → status_of e ≡ 2 → given ≡ None
-usage_only output given F O x Usage ends n = ends.0
-usage_only output given F O x Done ends n = absurd (omega arith)
-usage_only output given F O x (Failed t) ends n = absurd (omega arith)
-usage_only output given F O x (Refused t) ends n = absurd (omega arith)
-usage_only output given F O x WriteFault ends n = absurd (omega arith)
-usage_only output given F O x NoMemory ends n = absurd (omega arith)
-usage_only output given F O x NoModule ends n = absurd (omega arith)
-usage_only output given F O x FolderFault ends n = absurd (omega arith)
+pub usage_only : (output : Command → List ℕ → Output) (given : Option Command) (T : Tells) (x : Scene) (e : Ended) → RunEnds output given T x e → status_of e ≡ 2 → given ≡ None
+usage_only output given T x Usage ends n = ends.0
+usage_only output given T x Done ends n = absurd (omega arith)
+usage_only output given T x (Failed t) ends n = absurd (omega arith)
+usage_only output given T x (Refused t) ends n = absurd (omega arith)
+usage_only output given T x WriteFault ends n = absurd (omega arith)
+usage_only output given T x NoMemory ends n = absurd (omega arith)
+usage_only output given T x NoModule ends n = absurd (omega arith)
+usage_only output given T x FolderFault ends n = absurd (omega arith)
 
 -- with no settings
-usage_there_none : (output : Settings → List ℕ → Output) (F O : Type 0) (x : Scene) (e : Ended) → RunEnds output None F O x e → (status_of e ≡ 2) ⊎ (status_of e ≡ 8)
-usage_there_none output F O x Usage ends = inl refl
-usage_there_none output F O x NoMemory ends = inr refl
-usage_there_none output F O x Done ends = absurd ends
-usage_there_none output F O x (Failed t) ends = absurd ends
-usage_there_none output F O x (Refused t) ends = absurd ends
-usage_there_none output F O x WriteFault ends = absurd ends
-usage_there_none output F O x NoModule ends = absurd ends
-usage_there_none output F O x FolderFault ends = absurd ends
+usage_there_none : (output : Command → List ℕ → Output) (T : Tells) (x : Scene) (e : Ended) → RunEnds output None T x e → (status_of e ≡ 2) ⊎ (status_of e ≡ 8)
+usage_there_none output T x Usage ends = inl refl
+usage_there_none output T x NoMemory ends = inr refl
+usage_there_none output T x Done ends = absurd ends
+usage_there_none output T x (Failed t) ends = absurd ends
+usage_there_none output T x (Refused t) ends = absurd ends
+usage_there_none output T x WriteFault ends = absurd ends
+usage_there_none output T x NoModule ends = absurd ends
+usage_there_none output T x FolderFault ends = absurd ends
 
 -- and there nothing else is, but want of memory
-pub usage_there : (output : Settings → List ℕ → Output) (given : Option Settings) (F O : Type 0) (x : Scene) (e : Ended) → RunEnds output given F O x e → given ≡ None → (status_of e ≡ 2) ⊎ (status_of e ≡ 8)
-usage_there output given F O x e ends none = usage_there_none output F O x e (subst (λ (g : Option Settings). RunEnds output g F O x e) none ends)
+pub usage_there : (output : Command → List ℕ → Output) (given : Option Command) (T : Tells) (x : Scene) (e : Ended) → RunEnds output given T x e → given ≡ None → (status_of e ≡ 2) ⊎ (status_of e ≡ 8)
+usage_there output given T x e ends none = usage_there_none output T x e (subst (λ (g : Option Command). RunEnds output g T x e) none ends)
 
 -- a missing module is told only where a state of the run had no file there
-pub no_module_seen : (output : Settings → List ℕ → Output) (given : Option Settings) (F O : Type 0) (x : Scene) (e : Ended) (s : Settings) → given ≡ Some s → RunEnds output given F O x e → status_of e ≡ 9 → F → LacksModule (module_of s) x
-no_module_seen output given F O x NoModule s is ends n =
-    let h = given_ends output given F O x NoModule s is ends in h.0
-no_module_seen output given F O x Done s is ends n = absurd (omega arith)
-no_module_seen output given F O x (Failed t) s is ends n = absurd (omega arith)
-no_module_seen output given F O x (Refused t) s is ends n = absurd (omega arith)
-no_module_seen output given F O x Usage s is ends n = absurd (omega arith)
-no_module_seen output given F O x WriteFault s is ends n = absurd (omega arith)
-no_module_seen output given F O x NoMemory s is ends n = absurd (omega arith)
-no_module_seen output given F O x FolderFault s is ends n = absurd (omega arith)
+pub no_module_seen : (output : Command → List ℕ → Output) (given : Option Command) (T : Tells) (x : Scene) (e : Ended) (s : Command) → given ≡ Some s → RunEnds output given T x e → status_of e ≡ 9 → T.folder → LacksModule (module_of s) x
+no_module_seen output given T x NoModule s is ends n =
+    let h = given_ends output given T x NoModule s is ends in h.0
+no_module_seen output given T x Done s is ends n = absurd (omega arith)
+no_module_seen output given T x (Failed t) s is ends n = absurd (omega arith)
+no_module_seen output given T x (Refused t) s is ends n = absurd (omega arith)
+no_module_seen output given T x Usage s is ends n = absurd (omega arith)
+no_module_seen output given T x WriteFault s is ends n = absurd (omega arith)
+no_module_seen output given T x NoMemory s is ends n = absurd (omega arith)
+no_module_seen output given T x FolderFault s is ends n = absurd (omega arith)
 
-rose_given : (output : Settings → List ℕ → Output) (given : Option Settings) (F O : Type 0) (x : Scene) → RunEnds output given F O x FolderFault → Rose x.folder_faults x.folder_faults'
-rose_given output None F O x ends = absurd ends
-rose_given output (Some s) F O x ends = ends.0
+rose_given : (output : Command → List ℕ → Output) (given : Option Command) (T : Tells) (x : Scene) → RunEnds output given T x FolderFault → Rose x.folder_faults x.folder_faults'
+rose_given output None T x ends = absurd ends
+rose_given output (Some s) T x ends = ends.0
 
 -- a folder fault is told only where the folder's faults rose
-pub folder_fault_rose : (output : Settings → List ℕ → Output) (given : Option Settings) (F O : Type 0) (x : Scene) (e : Ended) → RunEnds output given F O x e → status_of e ≡ 10 → Rose x.folder_faults x.folder_faults'
-folder_fault_rose output given F O x FolderFault ends n = rose_given output given F O x ends
-folder_fault_rose output given F O x Done ends n = absurd (omega arith)
-folder_fault_rose output given F O x (Failed t) ends n = absurd (omega arith)
-folder_fault_rose output given F O x (Refused t) ends n = absurd (omega arith)
-folder_fault_rose output given F O x Usage ends n = absurd (omega arith)
-folder_fault_rose output given F O x WriteFault ends n = absurd (omega arith)
-folder_fault_rose output given F O x NoMemory ends n = absurd (omega arith)
-folder_fault_rose output given F O x NoModule ends n = absurd (omega arith)
+pub folder_fault_rose : (output : Command → List ℕ → Output) (given : Option Command) (T : Tells) (x : Scene) (e : Ended) → RunEnds output given T x e → status_of e ≡ 10 → Rose x.folder_faults x.folder_faults'
+folder_fault_rose output given T x FolderFault ends n = rose_given output given T x ends
+folder_fault_rose output given T x Done ends n = absurd (omega arith)
+folder_fault_rose output given T x (Failed t) ends n = absurd (omega arith)
+folder_fault_rose output given T x (Refused t) ends n = absurd (omega arith)
+folder_fault_rose output given T x Usage ends n = absurd (omega arith)
+folder_fault_rose output given T x WriteFault ends n = absurd (omega arith)
+folder_fault_rose output given T x NoMemory ends n = absurd (omega arith)
+folder_fault_rose output given T x NoModule ends n = absurd (omega arith)
 
-silent_module : (output : Settings → List ℕ → Output) (given : Option Settings) (F O : Type 0) (x : Scene) → RunEnds output given F O x NoModule → O → x.written' ≡ x.written
-silent_module output None F O x ends = absurd ends
-silent_module output (Some s) F O x ends = ends.1
+silent_module : (output : Command → List ℕ → Output) (given : Option Command) (T : Tells) (x : Scene) → RunEnds output given T x NoModule → T.out → x.written' ≡ x.written
+silent_module output None T x ends = absurd ends
+silent_module output (Some s) T x ends = ends.1
 
-silent_folder : (output : Settings → List ℕ → Output) (given : Option Settings) (F O : Type 0) (x : Scene) → RunEnds output given F O x FolderFault → O → x.written' ≡ x.written
-silent_folder output None F O x ends = absurd ends
-silent_folder output (Some s) F O x ends = ends.1
+silent_folder : (output : Command → List ℕ → Output) (given : Option Command) (T : Tells) (x : Scene) → RunEnds output given T x FolderFault → T.out → x.written' ≡ x.written
+silent_folder output None T x ends = absurd ends
+silent_folder output (Some s) T x ends = ends.1
 
 -- and then nothing was written
-pub silent : (output : Settings → List ℕ → Output) (given : Option Settings) (F O : Type 0) (x : Scene) (e : Ended) → RunEnds output given F O x e → IsSilent (status_of e) → O → x.written' ≡ x.written
-silent output given F O x Usage ends n = ends.1
-silent output given F O x NoMemory ends n = ends
-silent output given F O x NoModule ends n = silent_module output given F O x ends
-silent output given F O x FolderFault ends n = silent_folder output given F O x ends
-silent output given F O x Done ends n = absurd (none_of_four 0 2 8 9 10 (λ e. omega arith) (λ e. omega arith) (λ e. omega arith) (λ e. omega arith) n)
-silent output given F O x (Failed t) ends n = absurd (none_of_four 1 2 8 9 10 (λ e. omega arith) (λ e. omega arith) (λ e. omega arith) (λ e. omega arith) n)
-silent output given F O x (Refused t) ends n = absurd (none_of_four 3 2 8 9 10 (λ e. omega arith) (λ e. omega arith) (λ e. omega arith) (λ e. omega arith) n)
-silent output given F O x WriteFault ends n = absurd (none_of_four 6 2 8 9 10 (λ e. omega arith) (λ e. omega arith) (λ e. omega arith) (λ e. omega arith) n)
+pub silent : (output : Command → List ℕ → Output) (given : Option Command) (T : Tells) (x : Scene) (e : Ended) → RunEnds output given T x e → IsSilent (status_of e) → T.out → x.written' ≡ x.written
+silent output given T x Usage ends n = ends.1
+silent output given T x NoMemory ends n = ends
+silent output given T x NoModule ends n = silent_module output given T x ends
+silent output given T x FolderFault ends n = silent_folder output given T x ends
+silent output given T x Done ends n = absurd (none_of_four 0 2 8 9 10 (λ e. omega arith) (λ e. omega arith) (λ e. omega arith) (λ e. omega arith) n)
+silent output given T x (Failed t) ends n = absurd (none_of_four 1 2 8 9 10 (λ e. omega arith) (λ e. omega arith) (λ e. omega arith) (λ e. omega arith) n)
+silent output given T x (Refused t) ends n = absurd (none_of_four 3 2 8 9 10 (λ e. omega arith) (λ e. omega arith) (λ e. omega arith) (λ e. omega arith) n)
+silent output given T x WriteFault ends n = absurd (none_of_four 6 2 8 9 10 (λ e. omega arith) (λ e. omega arith) (λ e. omega arith) (λ e. omega arith) n)
 
 -- the one text of a status
 pub text_there : (e : Ended) → IsSilent (status_of e) ⊎ (status_of e ≡ 6) → last_text e ≡ text_of_status (status_of e)
@@ -166,43 +182,40 @@ text_there (Refused t) n = absurd (elim n [ inl h ↦ none_of_four 3 2 8 9 10 (�
 
 -- how often the library was called
 calls_counted : (e : Ended) (old new : ℕ) (calling : Type 0) → calling → Calls e old new → CountsCalls calling (status_of e) old new
-calls_counted Done old new C y h = record { called = λ _ _. h; uncalled = λ n. absurd (none_of_four 0 2 3 9 10 (λ e. omega arith) (λ e. omega arith) (λ e. omega arith) (λ e. omega arith) n); idle = λ none. absurd (none y); most = inr h }
-calls_counted (Failed t) old new C y h = record { called = λ _ _. h; uncalled = λ n. absurd (none_of_four 1 2 3 9 10 (λ e. omega arith) (λ e. omega arith) (λ e. omega arith) (λ e. omega arith) n); idle = λ none. absurd (none y); most = inr h }
-calls_counted WriteFault old new C y h = record { called = λ _ _. h; uncalled = λ n. absurd (none_of_four 6 2 3 9 10 (λ e. omega arith) (λ e. omega arith) (λ e. omega arith) (λ e. omega arith) n); idle = λ none. absurd (none y); most = inr h }
-calls_counted Usage old new C y h = record { called = λ _ n. absurd (none_of_three 2 0 1 6 (λ e. omega arith) (λ e. omega arith) (λ e. omega arith) n); uncalled = λ _. h; idle = λ none. absurd (none y); most = inl h }
-calls_counted (Refused t) old new C y h = record { called = λ _ n. absurd (none_of_three 3 0 1 6 (λ e. omega arith) (λ e. omega arith) (λ e. omega arith) n); uncalled = λ _. h; idle = λ none. absurd (none y); most = inl h }
-calls_counted NoModule old new C y h = record { called = λ _ n. absurd (none_of_three 9 0 1 6 (λ e. omega arith) (λ e. omega arith) (λ e. omega arith) n); uncalled = λ _. h; idle = λ none. absurd (none y); most = inl h }
-calls_counted FolderFault old new C y h = record { called = λ _ n. absurd (none_of_three 10 0 1 6 (λ e. omega arith) (λ e. omega arith) (λ e. omega arith) n); uncalled = λ _. h; idle = λ none. absurd (none y); most = inl h }
-calls_counted NoMemory old new C y h = record { called = λ _ n. absurd (none_of_three 8 0 1 6 (λ e. omega arith) (λ e. omega arith) (λ e. omega arith) n); uncalled = λ n. absurd (none_of_four 8 2 3 9 10 (λ e. omega arith) (λ e. omega arith) (λ e. omega arith) (λ e. omega arith) n); idle = λ none. absurd (none y); most = h }
+calls_counted Done old new C y h = record { failed = λ _ n. absurd (omega arith); uncalled = λ n. absurd (none_of_four 0 2 3 9 10 (λ e. omega arith) (λ e. omega arith) (λ e. omega arith) (λ e. omega arith) n); idle = λ none. absurd (none y); most = h }
+calls_counted (Failed t) old new C y h = record { failed = λ _ n. h; uncalled = λ n. absurd (none_of_four 1 2 3 9 10 (λ e. omega arith) (λ e. omega arith) (λ e. omega arith) (λ e. omega arith) n); idle = λ none. absurd (none y); most = inr h }
+calls_counted WriteFault old new C y h = record { failed = λ _ n. absurd (omega arith); uncalled = λ n. absurd (none_of_four 6 2 3 9 10 (λ e. omega arith) (λ e. omega arith) (λ e. omega arith) (λ e. omega arith) n); idle = λ none. absurd (none y); most = h }
+calls_counted Usage old new C y h = record { failed = λ _ n. absurd (omega arith); uncalled = λ n. h; idle = λ none. absurd (none y); most = inl h }
+calls_counted (Refused t) old new C y h = record { failed = λ _ n. absurd (omega arith); uncalled = λ n. h; idle = λ none. absurd (none y); most = inl h }
+calls_counted NoModule old new C y h = record { failed = λ _ n. absurd (omega arith); uncalled = λ n. h; idle = λ none. absurd (none y); most = inl h }
+calls_counted FolderFault old new C y h = record { failed = λ _ n. absurd (omega arith); uncalled = λ n. h; idle = λ none. absurd (none y); most = inl h }
+calls_counted NoMemory old new C y h = record { failed = λ _ n. absurd (omega arith); uncalled = λ n. absurd (none_of_four 8 2 3 9 10 (λ e. omega arith) (λ e. omega arith) (λ e. omega arith) (λ e. omega arith) n); idle = λ none. absurd (none y); most = h }
 
 -- a run that calls nothing
 idle_counted : (n old new : ℕ) (calling : Type 0) → (calling → ⊥) → new ≡ old → CountsCalls calling n old new
-idle_counted n old new C none h = record { called = λ y _. absurd (none y); uncalled = λ _. h; idle = λ _. h; most = inl h }
+idle_counted n old new C none h = record { failed = λ y _. absurd (none y); uncalled = λ _. h; idle = λ _. h; most = inl h }
 
-pub counts_calls : (given : Option Settings) (e : Ended) (old new : ℕ) → GivenCalls given e old new → CountsCalls (AreCalling given) (status_of e) old new
+pub counts_calls : (given : Option Command) (e : Ended) (old new : ℕ) → GivenCalls given e old new → CountsCalls (AreCalling given) (status_of e) old new
 counts_calls None e old new h = idle_counted (status_of e) old new _ (λ none. none) h
-counts_calls (Some (Call file location name args)) e old new h = calls_counted e old new _ tt h
-counts_calls (Some (Hash args)) e old new h = idle_counted (status_of e) old new _ (λ none. none) h
+counts_calls (Some (call file location name args)) e old new h = calls_counted e old new _ tt h
+counts_calls (Some (hash args)) e old new h = idle_counted (status_of e) old new _ (λ none. none) h
 
 -- with the settings in hand, a command's ending is the run's
-command_given : (output : Settings → List ℕ → Output) (s : Settings) (F O : Type 0) (x : Scene) (e : Ended) → CommandEnds (output s) (module_of s) F O x e → RunEnds output (Some s) F O x e
-command_given output s F O x Done h = h
-command_given output s F O x (Failed t) h = h
-command_given output s F O x (Refused t) h = h
-command_given output s F O x WriteFault h = h
-command_given output s F O x NoMemory h = h
-command_given output s F O x NoModule h = h
-command_given output s F O x FolderFault h = h
-command_given output s F O x Usage h = absurd h
-
-pub command_run : (output : Settings → List ℕ → Output) (given : Option Settings) (s : Settings) (F O : Type 0) (x : Scene) (e : Ended) → given ≡ Some s → CommandEnds (output s) (module_of s) F O x e → RunEnds output given F O x e
-command_run output given s F O x e is h = subst (λ (g : Option Settings). RunEnds output g F O x e) (sym is) (command_given output s F O x e h)
+pub command_given : (output : Command → List ℕ → Output) (s : Command) (T : Tells) (x : Scene) (e : Ended) → CommandEnds (output s) (module_of s) T x e → RunEnds output (Some s) T x e
+command_given output s T x Done h = h
+command_given output s T x (Failed t) h = h
+command_given output s T x (Refused t) h = h
+command_given output s T x WriteFault h = h
+command_given output s T x NoMemory h = h
+command_given output s T x NoModule h = h
+command_given output s T x FolderFault h = h
+command_given output s T x Usage h = absurd h
 
 -- want of memory calls nothing more
-pub idle_given : (given : Option Settings) (n : ℕ) → GivenCalls given NoMemory n n
+pub idle_given : (given : Option Command) (n : ℕ) → GivenCalls given NoMemory n n
 idle_given None n = refl
-idle_given (Some (Call file location name args)) n = inl refl
-idle_given (Some (Hash args)) n = refl
+idle_given (Some (call file location name args)) n = inl refl
+idle_given (Some (hash args)) n = refl
 
 -- a writing with no fault wrote all
 pub wrote_clear : (r : WroteAll) (bytes w w' : List ℕ) (T R : Type 0) → (T → WritesAll r bytes w w') → (r ≡ Fault → R) → T → (R → ⊥) → w' ≡ w ++ bytes
@@ -210,13 +223,44 @@ wrote_clear Wrote bytes w w' T R h fails told clear = h told
 wrote_clear Fault bytes w w' T R h fails told clear = absurd (clear (fails refl))
 
 -- the same at a number that is the status
-pub answers_at : (output : Settings → List ℕ → Output) (given : Option Settings) (F O T R : Type 0) (x : Scene) (errors errors' : List ℕ) (e : Ended) (s : Settings) (n : ℕ) → n ≡ status_of e → given ≡ Some s → RunEnds output given F O x e → (T → (R → ⊥) → errors' ≡ errors ++ last_text e) → IsWhole n → Answers (output s) (module_of s) F O (T × (R → ⊥)) x errors errors' n
-answers_at output given F O T R x errors errors' e s n at is ends said whole =
-    subst (λ (k : ℕ). Answers (output s) (module_of s) F O (T × (R → ⊥)) x errors errors' k) (sym at)
-    (answers_whole output given F O (T × (R → ⊥)) x errors errors' e s is ends (λ c. said c.0 c.1) (subst (λ (k : ℕ). IsWhole k) at whole))
+pub answers_at : (output : Command → List ℕ → Output) (given : Option Command) (T : Tells) (E R : Type 0) (x : Scene) (warned errors errors' : List ℕ) (e : Ended) (s : Command) (n : ℕ) → n ≡ status_of e → given ≡ Some s → RunEnds output given T x e → T.cache → T.folder → (E → (R → ⊥) → errors' ≡ errors ++ (warned ++ last_text e)) → IsWhole n → Answers (output s) (module_of s) T.out (E × (R → ⊥)) x warned errors errors' n
+answers_at output given T E R x warned errors errors' e s n at is ends cache told said whole =
+    subst (λ (k : ℕ). Answers (output s) (module_of s) T.out (E × (R → ⊥)) x warned errors errors' k) (sym at)
+    (answers_whole output given T (E × (R → ⊥)) x warned errors errors' e s is ends cache told (λ c. said c.0 c.1) (subst (λ (k : ℕ). IsWhole k) at whole))
 
-pub silent_at : (output : Settings → List ℕ → Output) (given : Option Settings) (F O : Type 0) (x : Scene) (e : Ended) (n : ℕ) → n ≡ status_of e → RunEnds output given F O x e → IsSilent n → O → x.written' ≡ x.written
-silent_at output given F O x e n at ends h = silent output given F O x e ends (subst (λ (k : ℕ). IsSilent k) at h)
+-- what was computed and written is how the command finishes
+pub finishes_so : (o : Output) (T : Tells) (x : Scene) (c : Computed) (e : Ended) → Computes o T.cache c → WritesWarned c e T.out x.out_faults x.out_faults' x.written x.written' → Finishes o T x e
+finishes_so o T x c e h (inr lost) = subst (λ (e' : Ended). Finishes o T x e') (sym lost.0) lost.1
+finishes_so o T x (computed.Printed t) Done h (inl w) =
+    λ cache. let is = h cache in (ap (λ p. p.status) is, ap (λ p. p.text) is, λ out. w out ∙ ap (λ b. x.written ++ b) (sym (ap (λ p. p.bytes) is)))
+finishes_so o T x (computed.Printed t) WriteFault h (inl w) =
+    (w.0, λ cache. let is = h cache in (ap (λ p. p.status) is, λ out. subst (λ (b : List ℕ). WritesPrefix b x.written x.written') (sym (ap (λ p. p.bytes) is)) (w.1 out)))
+finishes_so o T x (computed.Printed t) (Failed u) h (inl w) = absurd w
+finishes_so o T x (computed.Printed t) Usage h (inl w) = absurd w
+finishes_so o T x (computed.Printed t) (Refused u) h (inl w) = absurd w
+finishes_so o T x (computed.Printed t) NoMemory h (inl w) = absurd w
+finishes_so o T x (computed.Printed t) NoModule h (inl w) = absurd w
+finishes_so o T x (computed.Printed t) FolderFault h (inl w) = absurd w
+finishes_so o T x (computed.Failed t) e h (inl w) = subst (λ (e' : Ended). Finishes o T x e') (sym w.0) (h, w.1)
+finishes_so o T x (computed.Refused t) e h (inl w) = subst (λ (e' : Ended). Finishes o T x e') (sym w.0) (h, w.1)
+finishes_so o T x computed.NoMemory e h (inl w) = subst (λ (e' : Ended). Finishes o T x e') (sym w.0) w.1
 
-pub counts_at : (given : Option Settings) (e : Ended) (old new n : ℕ) → n ≡ status_of e → GivenCalls given e old new → CountsCalls (AreCalling given) n old new
+-- a claim that rests on less
+pub computes_under : (o : Output) (A B : Type 0) (c : Computed) → (B → A) → Computes o A c → Computes o B c
+computes_under o A B (computed.Printed t) f h = λ b. h (f b)
+computes_under o A B (computed.Failed t) f h = h
+computes_under o A B (computed.Refused t) f h = h
+computes_under o A B computed.NoMemory f h = tt
+
+pub silent_at : (output : Command → List ℕ → Output) (given : Option Command) (T : Tells) (x : Scene) (e : Ended) (n : ℕ) → n ≡ status_of e → RunEnds output given T x e → IsSilent n → T.out → x.written' ≡ x.written
+silent_at output given T x e n at ends h = silent output given T x e ends (subst (λ (k : ℕ). IsSilent k) at h)
+
+pub counts_at : (given : Option Command) (e : Ended) (old new n : ℕ) → n ≡ status_of e → GivenCalls given e old new → CountsCalls (AreCalling given) n old new
 counts_at given e old new n at h = subst (λ (k : ℕ). CountsCalls (AreCalling given) k old new) (sym at) (counts_calls given e old new h)
+
+-- a count that rose in a part of a call rose in the call
+pub rose_front : (a b c : ℕ) → b ≤ c → Rose a b → Rose a c
+rose_front a b c later rose = omega (arith, later, rose)
+
+pub rose_back : (a b c : ℕ) → a ≤ b → Rose b c → Rose a c
+rose_back a b c later rose = omega (arith, later, rose)

@@ -1,11 +1,11 @@
 -- How a run ends: what was read and written by then, and why.
-use Rattle.std.specs.Prelude.{◌≡◌, ◌≢◌, ◌⊎◌, ℕ, ◌+◌, List, [], ◌∷◌, ◌++◌, Bool, false, Option, Some, None, codes}
+use Rattle.std.specs.Prelude.{◌≡◌, ℕ, List, [], ◌++◌, false, Option, Some, None, codes, ⊤}
 use Rattle.jl_text.specs.Paths.{PathView}
+use Rattle.jl_text.specs.Counts.{Rose}
 use Rattle.jl_folder.specs.State.{State, Trace, History, AtSome, now, since, is_file}
 use Rattle.jl_folder.specs.Reading.{ReadsNamed}
-use Rattle.jl_text.specs.Counts.{Rose}
 use Rattle.jl_streams.specs.Streams.{WritesPrefix}
-use Rattle.jl_words.specs.declared.types.Settings.{Settings}
+use Rattle.jl_cmd.specs.Commands.{Command}
 use Rattle.jl_cmd.specs.declared.ended.Ended.{Ended}
 use Rattle.jl_cmd.specs.declared.ended.Ended.TheVariants.{Done, Failed, Usage, Refused, WriteFault, NoMemory, NoModule, FolderFault}
 use Rattle.jl_cmd.specs.Output.{Output, module_of}
@@ -49,11 +49,20 @@ pub record Scene : Type 0 where
 abbrev pub scene : History → History → (folder_faults folder_faults' : ℕ) → (written written' : List ℕ) → (out_faults out_faults' : ℕ) → Scene
 scene old new f f' w w' g g' = record { state = now old; steps = since old new; folder_faults = f; folder_faults' = f'; written = w; written' = w'; out_faults = g; out_faults' = g' }
 
--- the file was read: one of the steps found its path naming a node of these bytes, of a longer file up to the first byte past
+-- what a run is told of: whether its folder tells, whether its output does, and whether the cache folder was sound and others kept its rules
+pub record Tells : Type 1 where
+  pub folder : Type 0
+  pub out : Type 0
+  pub cache : Type 0
+
+abbrev pub tells : (folder out cache : Type 0) → Tells
+tells f o c = record { folder = f; out = o; cache = c }
+
+-- a first part of the steps read the file: one of them found its path naming a node of these bytes, of a longer file up to the first byte past
 -- the limit; without a file nothing is read
 abbrev pub ReadsModule : Option PathView → List ℕ → Scene → Type 0
-ReadsModule None m x = Unit {0}
-ReadsModule (Some path) m x = ReadsNamed path 1048577 m x.state x.steps
+ReadsModule None m x = ⊤
+ReadsModule (Some path) m x = (reading : Trace) × (rest : Trace) × (x.steps ≡ reading ++ rest) × ReadsNamed path 1048577 m x.state reading
 
 -- some state of the run had no file at the path
 abbrev pub LacksModule : Option PathView → Scene → Type 0
@@ -61,43 +70,43 @@ LacksModule None x = ⊥
 LacksModule (Some path) x = AtSome x.state x.steps (λ s. is_file s path ≡ false)
 
 -- the output that was computed was written so
-abbrev pub Finishes : Output → (tells : Type 0) → Scene → Ended → Type 0
-Finishes o tells x Done = (o.status ≡ status.done) × (o.text ≡ []) × (tells → x.written' ≡ x.written ++ o.bytes)
-Finishes o tells x (Failed t) = (o ≡ record { bytes = []; status = status.task_error; text = t }) × (tells → x.written' ≡ x.written)
-Finishes o tells x (Refused t) = (o ≡ record { bytes = []; status = status.refused; text = t }) × (tells → x.written' ≡ x.written)
-Finishes o tells x WriteFault = (o.status ≡ status.done) × Rose x.out_faults x.out_faults' × (tells → WritesPrefix o.bytes x.written x.written')
-Finishes o tells x NoMemory = tells → x.written' ≡ x.written
-Finishes o tells x Usage = ⊥
-Finishes o tells x NoModule = ⊥
-Finishes o tells x FolderFault = ⊥
+abbrev pub Finishes : Output → Tells → Scene → Ended → Type 0
+Finishes o T x Done = T.cache → (o.status ≡ status.done) × (o.text ≡ []) × (T.out → x.written' ≡ x.written ++ o.bytes)
+Finishes o T x (Failed t) = (o ≡ record { bytes = []; status = status.task_error; text = t }) × (T.out → x.written' ≡ x.written)
+Finishes o T x (Refused t) = (o ≡ record { bytes = []; status = status.refused; text = t }) × (T.out → x.written' ≡ x.written)
+Finishes o T x WriteFault = Rose x.out_faults x.out_faults' × (T.cache → (o.status ≡ status.done) × (T.out → WritesPrefix o.bytes x.written x.written'))
+Finishes o T x NoMemory = T.out → x.written' ≡ x.written
+Finishes o T x Usage = ⊥
+Finishes o T x NoModule = ⊥
+Finishes o T x FolderFault = ⊥
 
 -- some module was read, and its output was written so
-abbrev pub FinishesModule : (List ℕ → Output) → Option PathView → (folder_tells out_tells : Type 0) → Scene → Ended → Type 0
-FinishesModule output path folder_tells out_tells x e = (m : List ℕ) × (folder_tells → ReadsModule path m x) × Finishes (output m) out_tells x e
+abbrev pub FinishesModule : (List ℕ → Output) → Option PathView → Tells → Scene → Ended → Type 0
+FinishesModule output path T x e = (m : List ℕ) × (T.folder → ReadsModule path m x) × Finishes (output m) T x e
 
 -- a command over a module file, whose output is a function of the module's bytes
-abbrev pub CommandEnds : (List ℕ → Output) → Option PathView → (folder_tells out_tells : Type 0) → Scene → Ended → Type 0
-CommandEnds output path F O x Done = FinishesModule output path F O x Done
-CommandEnds output path F O x (Failed t) = FinishesModule output path F O x (Failed t)
-CommandEnds output path F O x (Refused t) = FinishesModule output path F O x (Refused t)
-CommandEnds output path F O x WriteFault = FinishesModule output path F O x WriteFault
-CommandEnds output path F O x NoMemory = O → x.written' ≡ x.written
-CommandEnds output path F O x NoModule = (F → LacksModule path x) × (O → x.written' ≡ x.written)
-CommandEnds output path F O x FolderFault = Rose x.folder_faults x.folder_faults' × (O → x.written' ≡ x.written)
-CommandEnds output path F O x Usage = ⊥
+abbrev pub CommandEnds : (List ℕ → Output) → Option PathView → Tells → Scene → Ended → Type 0
+CommandEnds output path T x Done = FinishesModule output path T x Done
+CommandEnds output path T x (Failed t) = FinishesModule output path T x (Failed t)
+CommandEnds output path T x (Refused t) = FinishesModule output path T x (Refused t)
+CommandEnds output path T x WriteFault = FinishesModule output path T x WriteFault
+CommandEnds output path T x NoMemory = T.out → x.written' ≡ x.written
+CommandEnds output path T x NoModule = (T.folder → LacksModule path x) × (T.out → x.written' ≡ x.written)
+CommandEnds output path T x FolderFault = Rose x.folder_faults x.folder_faults' × (T.out → x.written' ≡ x.written)
+CommandEnds output path T x Usage = ⊥
 
 -- the words gave settings, and their command ended so
-abbrev pub GivenEnds : (Settings → List ℕ → Output) → Option Settings → (folder_tells out_tells : Type 0) → Scene → Ended → Type 0
-GivenEnds output None F O x e = ⊥
-GivenEnds output (Some s) F O x e = CommandEnds (output s) (module_of s) F O x e
+abbrev pub GivenEnds : (Command → List ℕ → Output) → Option Command → Tells → Scene → Ended → Type 0
+GivenEnds output None T x e = ⊥
+GivenEnds output (Some s) T x e = CommandEnds (output s) (module_of s) T x e
 
 -- a run, over what its words give
-abbrev pub RunEnds : (Settings → List ℕ → Output) → Option Settings → (folder_tells out_tells : Type 0) → Scene → Ended → Type 0
-RunEnds output given F O x Usage = (given ≡ None) × (O → x.written' ≡ x.written)
-RunEnds output given F O x NoMemory = O → x.written' ≡ x.written
-RunEnds output given F O x Done = GivenEnds output given F O x Done
-RunEnds output given F O x (Failed t) = GivenEnds output given F O x (Failed t)
-RunEnds output given F O x (Refused t) = GivenEnds output given F O x (Refused t)
-RunEnds output given F O x WriteFault = GivenEnds output given F O x WriteFault
-RunEnds output given F O x NoModule = GivenEnds output given F O x NoModule
-RunEnds output given F O x FolderFault = GivenEnds output given F O x FolderFault
+abbrev pub RunEnds : (Command → List ℕ → Output) → Option Command → Tells → Scene → Ended → Type 0
+RunEnds output given T x Usage = (given ≡ None) × (T.out → x.written' ≡ x.written)
+RunEnds output given T x NoMemory = T.out → x.written' ≡ x.written
+RunEnds output given T x Done = GivenEnds output given T x Done
+RunEnds output given T x (Failed t) = GivenEnds output given T x (Failed t)
+RunEnds output given T x (Refused t) = GivenEnds output given T x (Refused t)
+RunEnds output given T x WriteFault = GivenEnds output given T x WriteFault
+RunEnds output given T x NoModule = GivenEnds output given T x NoModule
+RunEnds output given T x FolderFault = GivenEnds output given T x FolderFault

@@ -1,4 +1,6 @@
 pub mod Arguments
+pub mod Caches
+pub mod Commands
 pub mod Endings
 pub mod Output
 pub mod Promises

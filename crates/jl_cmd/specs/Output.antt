@@ -10,8 +10,7 @@ use Rattle.hex.specs.Hex.{encode_lower}
 use Rattle.jl_value.specs.Canonical.{text_of}
 use Rattle.jl_value.specs.Key.{key_of}
 use Rattle.jl_value.specs.Library.{Answer, value, error}
-use Rattle.jl_words.specs.declared.types.Settings.{Settings}
-use Rattle.jl_words.specs.declared.types.Settings.TheVariants.{Call, Hash}
+use Rattle.jl_cmd.specs.Commands.{Command, call, hash}
 use Rattle.jl_cmd.specs.declared.arguments.ArgumentsFault.{ArgumentsFault}
 use Rattle.jl_cmd.specs.declared.arguments.ArgumentsFault.TheVariants.{UnknownFunction}
 use Rattle.jl_cmd.specs.Arguments.{arguments_of}
@@ -81,16 +80,16 @@ abbrev pub hash_output : List ℕ → Output
 hash_output args = hashed (arguments_of args)
 
 -- the module file of a command, where it reads one
-abbrev pub module_of : Settings → Option PathView
-module_of (Call file location name args) = Some file
-module_of (Hash args) = None
+abbrev pub module_of : Command → Option PathView
+module_of (call file location name args) = Some file
+module_of (hash args) = None
 
 -- whether a command calls a function
-abbrev pub IsCalling : Settings → Type 0
-IsCalling (Call file location name args) = Unit {0}
-IsCalling (Hash args) = ⊥
+abbrev pub IsCalling : Command → Type 0
+IsCalling (call file location name args) = Unit {0}
+IsCalling (hash args) = ⊥
 
 -- what the settings and the bytes of the module file give
-abbrev pub output_of : (code : List ℕ → List ℕ → Option (List ℕ)) → (List ℕ → Option ModuleFault) → (List ℕ → List (List ℕ × Tree) → Answer) → Settings → List ℕ → Output
-output_of code fault answer (Call file location name args) m = call_output code fault answer m name args
-output_of code fault answer (Hash args) m = hash_output args
+abbrev pub output_of : (code : List ℕ → List ℕ → Option (List ℕ)) → (List ℕ → Option ModuleFault) → (List ℕ → List (List ℕ × Tree) → Answer) → Command → List ℕ → Output
+output_of code fault answer (call file location name args) m = call_output code fault answer m name args
+output_of code fault answer (hash args) m = hash_output args

@@ -22,11 +22,7 @@ IsSilent n = (n ≡ status.usage) ⊎ ((n ≡ status.no_memory) ⊎ ((n ≡ stat
 abbrev pub IsStatus : ℕ → Type 0
 IsStatus n = IsWhole n ⊎ (IsSilent n ⊎ (n ≡ status.write_fault))
 
--- the statuses at which the function was called
-abbrev pub IsCalled : ℕ → Type 0
-IsCalled n = (n ≡ status.done) ⊎ ((n ≡ status.task_error) ⊎ (n ≡ status.write_fault))
-
--- the statuses at which it was not
+-- the statuses at which no function was called
 abbrev pub IsUncalled : ℕ → Type 0
 IsUncalled n = (n ≡ status.usage) ⊎ ((n ≡ status.refused) ⊎ ((n ≡ status.no_module) ⊎ (n ≡ status.folder_fault)))
 
@@ -39,25 +35,24 @@ text_of_status n =
     (if nat_eq n status.no_module then error_line (codes "no module") else
     error_line (codes "folder fault"))))
 
--- the output is that of the module's bytes as this run read them: its bytes, its status and its last text
-pub record Answers (output : List ℕ → Output) (path : Option PathView) (folder_tells out_tells err_clear : Type 0) (x : Scene) (errors errors' : List ℕ) (n : ℕ) : Type 0 where
+-- the output is that of the module's bytes as this run read them: its bytes, its status and its last text, behind the warnings
+pub record Answers (output : List ℕ → Output) (path : Option PathView) (out_tells err_clear : Type 0) (x : Scene) (warnings errors errors' : List ℕ) (n : ℕ) : Type 0 where
   pub bytes : List ℕ
-  pub reads : folder_tells → ReadsModule path bytes x
+  pub reads : ReadsModule path bytes x
   pub status : (output bytes).status ≡ n
   pub written : out_tells → x.written' ≡ x.written ++ (output bytes).bytes
-  pub text : err_clear → errors' ≡ errors ++ (output bytes).text
+  pub text : err_clear → errors' ≡ errors ++ (warnings ++ (output bytes).text)
 
 -- a front of that output was written, and the output failed
-pub record AnswersFront (output : List ℕ → Output) (path : Option PathView) (folder_tells out_tells : Type 0) (x : Scene) : Type 0 where
+pub record AnswersFront (output : List ℕ → Output) (path : Option PathView) (out_tells : Type 0) (x : Scene) : Type 0 where
   pub bytes : List ℕ
-  pub reads : folder_tells → ReadsModule path bytes x
+  pub reads : ReadsModule path bytes x
   pub status : (output bytes).status ≡ status.done
-  pub rose : Rose x.out_faults x.out_faults'
   pub front : out_tells → WritesPrefix (output bytes).bytes x.written x.written'
 
--- the library's count of calls: it rises by one exactly where a function was called, and by no more for want of memory
+-- the library's count of calls: at an error of the function it rose by one, where none was called by none, and never by more
 pub record CountsCalls (calling : Type 0) (n : ℕ) (calls calls' : ℕ) : Type 0 where
-  pub called : calling → IsCalled n → calls' ≡ next_count calls
+  pub failed : calling → n ≡ status.task_error → calls' ≡ next_count calls
   pub uncalled : IsUncalled n → calls' ≡ calls
   pub idle : (calling → ⊥) → calls' ≡ calls
   pub most : (calls' ≡ calls) ⊎ (calls' ≡ next_count calls)

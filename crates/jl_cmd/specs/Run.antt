@@ -1,25 +1,44 @@
--- What a run comes to, and what its clauses say.
-use Rattle.std.specs.Prelude.{◌≡◌, ◌⊎◌, ℕ, List, [], ◌∷◌, ◌++◌, Option, Some, None}
+-- What a run comes to, and how often it calls a function.
+use Rattle.std.specs.Prelude.{◌≡◌, ◌⊎◌, ℕ, List, [], ◌++◌, Option, Some, None}
+use Rattle.jl_text.specs.Counts.{Rose}
+use Rattle.jl_streams.specs.Streams.{WritesPrefix}
 use Rattle.jl_value.specs.Library.{next_count}
-use Rattle.jl_cmd.specs.declared.compute.Computed.{Computed}
-use Rattle.jl_cmd.specs.declared.compute.Computed.TheVariants as computed
+use Rattle.jl_cmd.specs.declared.computed.Computed.{Computed}
+use Rattle.jl_cmd.specs.declared.computed.Computed.TheVariants as computed
 use Rattle.jl_cmd.specs.declared.ended.Ended.{Ended}
 use Rattle.jl_cmd.specs.declared.ended.Ended.TheVariants.{Done, Failed, Usage, Refused, WriteFault, NoMemory, NoModule, FolderFault}
-use Rattle.jl_words.specs.declared.types.Settings.{Settings}
-use Rattle.jl_words.specs.declared.types.Settings.TheVariants.{Call, Hash}
+use Rattle.jl_cmd.specs.Commands.{Command, call, hash}
 use Rattle.jl_cmd.specs.Output.{Output, IsCalling}
 use Rattle.jl_cmd.specs.Statuses as status
 
--- the output that was computed
-abbrev pub Computes : Output → Computed → Type 0
-Computes o (computed.Printed t) = o ≡ record { bytes = t; status = status.done; text = [] }
-Computes o (computed.Failed t) = o ≡ record { bytes = []; status = status.task_error; text = t }
-Computes o (computed.Refused t) = o ≡ record { bytes = []; status = status.refused; text = t }
-Computes o computed.NoMemory = Unit {0}
+-- the output that was computed; a value rests on the cache folder
+abbrev pub Computes : Output → (cache : Type 0) → Computed → Type 0
+Computes o cache (computed.Printed t) = cache → o ≡ record { bytes = t; status = status.done; text = [] }
+Computes o cache (computed.Failed t) = o ≡ record { bytes = []; status = status.task_error; text = t }
+Computes o cache (computed.Refused t) = o ≡ record { bytes = []; status = status.refused; text = t }
+Computes o cache computed.NoMemory = Unit {0}
 
--- the library's count: it rises by one exactly where the function was called
+-- what was computed was written: the bytes that are to be printed, or a front of them; nothing of anything else
+abbrev pub Writes : Computed → Ended → (tells : Type 0) → (faults faults' : ℕ) → (written written' : List ℕ) → Type 0
+Writes (computed.Printed t) Done tells f f' w w' = tells → w' ≡ w ++ t
+Writes (computed.Printed t) WriteFault tells f f' w w' = Rose f f' × (tells → WritesPrefix t w w')
+Writes (computed.Printed t) (Failed u) tells f f' w w' = ⊥
+Writes (computed.Printed t) Usage tells f f' w w' = ⊥
+Writes (computed.Printed t) (Refused u) tells f f' w w' = ⊥
+Writes (computed.Printed t) NoMemory tells f f' w w' = ⊥
+Writes (computed.Printed t) NoModule tells f f' w w' = ⊥
+Writes (computed.Printed t) FolderFault tells f f' w w' = ⊥
+Writes (computed.Failed t) e tells f f' w w' = (e ≡ Failed t) × (tells → w' ≡ w)
+Writes (computed.Refused t) e tells f f' w w' = (e ≡ Refused t) × (tells → w' ≡ w)
+Writes computed.NoMemory e tells f f' w w' = (e ≡ NoMemory) × (tells → w' ≡ w)
+
+-- the same, unless memory was wanting before anything was written
+abbrev pub WritesWarned : Computed → Ended → (tells : Type 0) → (faults faults' : ℕ) → (written written' : List ℕ) → Type 0
+WritesWarned c e tells f f' w w' = Writes c e tells f f' w w' ⊎ ((e ≡ NoMemory) × (tells → w' ≡ w))
+
+-- the library's count: it rises by one where the function was called, and not where its value was found
 abbrev pub Counts : Computed → ℕ → ℕ → Type 0
-Counts (computed.Printed t) old new = new ≡ next_count old
+Counts (computed.Printed t) old new = (new ≡ old) ⊎ (new ≡ next_count old)
 Counts (computed.Failed t) old new = new ≡ next_count old
 Counts (computed.Refused t) old new = new ≡ old
 Counts computed.NoMemory old new = (new ≡ old) ⊎ (new ≡ next_count old)
@@ -31,18 +50,25 @@ IsRefused (computed.Failed t) = ⊥
 IsRefused (computed.Refused t) = Unit {0}
 IsRefused computed.NoMemory = Unit {0}
 
--- something was called
-abbrev pub IsAnswered : Computed → Type 0
-IsAnswered (computed.Printed t) = Unit {0}
-IsAnswered (computed.Failed t) = Unit {0}
-IsAnswered (computed.Refused t) = ⊥
-IsAnswered computed.NoMemory = Unit {0}
+-- it is a value's, or memory was wanting
+abbrev pub IsPrinted : Computed → Type 0
+IsPrinted (computed.Printed t) = Unit {0}
+IsPrinted (computed.Failed t) = ⊥
+IsPrinted (computed.Refused t) = ⊥
+IsPrinted computed.NoMemory = Unit {0}
 
--- the library's count at an ending: a function was called exactly where its answer was to be told
+-- it is an error's, or memory was wanting
+abbrev pub IsFailed : Computed → Type 0
+IsFailed (computed.Printed t) = ⊥
+IsFailed (computed.Failed t) = Unit {0}
+IsFailed (computed.Refused t) = ⊥
+IsFailed computed.NoMemory = Unit {0}
+
+-- the library's count at an ending
 abbrev pub Calls : Ended → ℕ → ℕ → Type 0
-Calls Done old new = new ≡ next_count old
+Calls Done old new = (new ≡ old) ⊎ (new ≡ next_count old)
 Calls (Failed t) old new = new ≡ next_count old
-Calls WriteFault old new = new ≡ next_count old
+Calls WriteFault old new = (new ≡ old) ⊎ (new ≡ next_count old)
 Calls Usage old new = new ≡ old
 Calls (Refused t) old new = new ≡ old
 Calls NoModule old new = new ≡ old
@@ -50,16 +76,16 @@ Calls FolderFault old new = new ≡ old
 Calls NoMemory old new = (new ≡ old) ⊎ (new ≡ next_count old)
 
 -- the same of a command, which may call none
-abbrev pub CommandCalls : Settings → Ended → ℕ → ℕ → Type 0
-CommandCalls (Call file location name args) e old new = Calls e old new
-CommandCalls (Hash args) e old new = new ≡ old
+abbrev pub CommandCalls : Command → Ended → ℕ → ℕ → Type 0
+CommandCalls (call file location name args) e old new = Calls e old new
+CommandCalls (hash args) e old new = new ≡ old
 
 -- and of words
-abbrev pub GivenCalls : Option Settings → Ended → ℕ → ℕ → Type 0
+abbrev pub GivenCalls : Option Command → Ended → ℕ → ℕ → Type 0
 GivenCalls None e old new = new ≡ old
 GivenCalls (Some s) e old new = CommandCalls s e old new
 
 -- the words give the settings of a command that calls a function
-abbrev pub AreCalling : Option Settings → Type 0
+abbrev pub AreCalling : Option Command → Type 0
 AreCalling None = ⊥
 AreCalling (Some s) = IsCalling s

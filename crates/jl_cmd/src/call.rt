@@ -1,27 +1,43 @@
 // The command `call`.
-ghost use Rattle.std.specs.Prelude.{◌≡◌, ◌≤◌, ℕ, List, Some, length, map, string_bytes};
-ghost use Rattle.jl_text.specs.Paths.{PathView};
-ghost use Rattle.jl_value.specs.Library.{next_count};
-ghost use Rattle.jl_folder.specs.State.{now, since};
-ghost use Rattle.jl_folder.specs.Calls.{Waits};
-ghost use Rattle.jl_cmd.specs.declared.compute.Computed.{Computed as ComputedOf};
-ghost use Rattle.jl_cmd.specs.Output.{Output, call_output, module_of, output_of};
-ghost use Rattle.jl_cmd.specs.Endings.{CommandEnds, Finishes, RunEnds, Scene, scene};
-ghost use Rattle.jl_cmd.specs.Run.{Computes, Counts, Calls};
+ghost use Rattle.std.specs.Prelude.{◌≡◌, ◌≤◌, ◌⊎◌, ℕ, [], Some, IsSome, IfOk, IsTrue};
+ghost use Rattle.jl_text.specs.Texts.{is_name};
+ghost use Rattle.jl_entry.specs.Names.{root_of};
+ghost use Rattle.jl_laws.specs.Tidy.{IsSound};
+ghost use Rattle.jl_laws.specs.Proper.{IsLawful};
+ghost use Rattle.jl_claims.specs.Claims.{Called as CallsFolder};
+ghost use Rattle.jl_store.specs.Cached.{AnyMove};
+ghost use Rattle.jl_store.specs.Trust.{IsTrusted};
+ghost use Rattle.jl_words.specs.ModuleNames.{module_name_of};
+ghost use Rattle.jl_cmd.specs.Output.{call_output};
+ghost use Rattle.jl_cmd.specs.Texts.{warning_lines};
+ghost use Rattle.jl_cmd.specs.Endings.{CommandEnds, scene, tells};
+ghost use Rattle.jl_cmd.specs.Run.{Writes, WritesWarned, Counts, Calls};
 
-use crate::compute::{Computed, compute};
+use crate::compute::compute;
+use crate::computed::Computed;
 use crate::ended::Ended;
+use crate::warn::lines_of;
 use jl_folder::{FileRead, Folder, Path, read_file};
-use jl_streams::{Sink, WroteAll, write_all};
+use jl_store::{Memory, Warning};
+use jl_streams::{Host, Sink, WroteAll, write_all};
+use jl_text::{Text, Token};
 use jl_value::Library;
-use std::alloc::Global;
+use jl_words::module_name;
+use std::alloc::{AllocError, Global};
 
 // A module is read up to the first byte past its limit.
 const MOST: usize = 1_048_577;
 
+/// How a command ended, and the lines of its warnings.
+#[derive(Drop)]
+pub struct Warned {
+    pub ended: Ended,
+    pub lines: Text,
+}
+
 /// Writes what was computed.
 pub fn finish<O: Sink>(out: &mut O, computed: Computed) -> Ended
-    ensures finishes { (o : Output) (x : Scene) → Computes o computed → x.written ≡ O.written out.old → x.written' ≡ O.written out.new → x.out_faults ≡ O.faults out.old → x.out_faults' ≡ O.faults out.new → Finishes o (O.told out.old) x result }
+    ensures writes { Writes computed result (O.told out.old) (O.faults out.old) (O.faults out.new) (O.written out.old) (O.written out.new) }
     ensures calls { (old new : ℕ) → Counts computed old new → Calls result old new }
     ensures told { O.told out.old → O.told out.new }
     ensures later { O.faults out.old ≤ O.faults out.new }
@@ -37,31 +53,110 @@ pub fn finish<O: Sink>(out: &mut O, computed: Computed) -> Ended
     }
 }
 
-/// Calls the function of this name of the module in a file, on the arguments that a text gives.
-pub fn call<L: Library, F: Folder, O: Sink>(
+// The cache of the functions of a module file.
+fn memory_of(
+    alloc: Global,
+    file: &Path,
+    location: &Path,
+    token: &Token,
+) -> Result<Memory, AllocError>
+    requires { IsSome (module_name_of file.now) }
+    ensures location { IfOk result (λ m. m.location ≡ location.now) }
+    ensures module_name { IfOk result (λ m. module_name_of file.now ≡ Some m.«module») }
+    ensures name { IfOk result (λ m. IsTrue (is_name m.«module»)) }
+    ensures token { IfOk result (λ m. m.token ≡ token.now) }
+{
+    let name = module_name(file).unwrap();
+    Ok(Memory {
+        location: location.copy()?,
+        module: Text::new(String::from_str(alloc, name)?),
+        token: token.copy()?,
+    })
+}
+
+/// Without warnings.
+pub fn ended(alloc: Global, ended: Ended) -> Warned
+    ensures ended { result.ended ≡ ended }
+    ensures lines { result.lines ≡ [] }
+{
+    Warned {
+        ended,
+        lines: Text::new(String::new(alloc)),
+    }
+}
+
+// Writes what was computed, unless memory wants for the lines of its warnings.
+fn written<O: Sink>(
+    alloc: Global,
+    out: &mut O,
+    memory: &Memory,
+    computed: Computed,
+    warnings: &[Warning],
+) -> Warned
+    ensures writes { WritesWarned computed result.ended (O.told out.old) (O.faults out.old) (O.faults out.new) (O.written out.old) (O.written out.new) }
+    ensures lines { (result.lines ≡ warning_lines memory.now.«module» warnings.now) ⊎ (result.lines ≡ []) }
+    ensures calls { (old new : ℕ) → Counts computed old new → Calls result.ended old new }
+    ensures told { O.told out.old → O.told out.new }
+    ensures later { O.faults out.old ≤ O.faults out.new }
+{
+    match lines_of(alloc, memory, warnings) {
+        Ok(lines) => {
+            let ended = finish(out, computed);
+            Warned { ended, lines }
+        }
+        Err(_) => ended(alloc, Ended::NoMemory),
+    }
+}
+
+/// Calls the function of this name of the module in a file, on the arguments that a text gives, with the cache below a location.
+pub fn call<L: Library, F: Folder, O: Sink, H: Host>(
     alloc: Global,
     lib: &mut L,
     folder: &mut F,
     out: &mut O,
+    host: &mut H,
     file: &Path,
+    location: &Path,
     name: &str,
     args: &str,
-) -> Ended
-    ensures ends { CommandEnds (λ m. call_output L.code L.fault L.answer m name.now args.now) (Some file.now) (F.told folder.old) (O.told out.old)
-        (scene (F.history folder.old) (F.history folder.new) (F.faults folder.old) (F.faults folder.new) (O.written out.old) (O.written out.new) (O.faults out.old) (O.faults out.new)) result }
-    ensures calls { Calls result (L.calls lib.old) (L.calls lib.new) }
-    ensures waits { F.told folder.old → Waits (F.token folder.old) (F.history folder.old) (F.history folder.new) }
+) -> Warned
+    requires token { H.token host.old ≡ F.token folder.old }
+    requires file { IsSome (module_name_of file.now) }
+    ensures ends { CommandEnds (λ m. call_output L.code L.fault L.answer m name.now args.now) (Some file.now)
+        (tells (F.told folder.old) (O.told out.old) (IsTrusted (root_of location.now) L.answer (F.told folder.old) (F.history folder.old) (F.history folder.new)))
+        (scene (F.history folder.old) (F.history folder.new) (F.faults folder.old) (F.faults folder.new) (O.written out.old) (O.written out.new) (O.faults out.old) (O.faults out.new)) result.ended }
+    ensures calls { Calls result.ended (L.calls lib.old) (L.calls lib.new) }
+    ensures lawful { F.told folder.old → CallsFolder (IsLawful (root_of location.now) L.answer) (IsLawful (root_of location.now) L.answer) (F.token folder.old) AnyMove
+        (IsSound (root_of location.now) L.answer) (IsSound (root_of location.now) L.answer) (F.history folder.old) (F.history folder.new) }
     ensures told { F.told folder.old → F.told folder.new }
     ensures token { F.token folder.new ≡ F.token folder.old }
     ensures opens { F.opens folder.new ≡ F.opens folder.old }
     ensures folder_later { F.faults folder.old ≤ F.faults folder.new }
     ensures out_told { O.told out.old → O.told out.new }
     ensures out_later { O.faults out.old ≤ O.faults out.new }
+    ensures host { H.token host.new ≡ H.token host.old }
 {
+    let Ok(memory) = memory_of(alloc, file, location, host.token()) else {
+        return ended(alloc, Ended::NoMemory);
+    };
     match read_file(alloc, folder, file, MOST) {
-        FileRead::Bytes(bytes) => finish(out, compute(alloc, lib, bytes.as_slice(), name, args)),
-        FileRead::NoFile => Ended::NoModule,
-        FileRead::Failed => Ended::FolderFault,
-        FileRead::NoMemory => Ended::NoMemory,
+        FileRead::Bytes(bytes) => {
+            let mut warnings = Vec::new(alloc);
+            let computed = compute(
+                alloc,
+                &memory,
+                lib,
+                folder,
+                host,
+                bytes.as_slice(),
+                name,
+                args,
+                &mut warnings,
+            );
+            written(alloc, out, &memory, computed, warnings.as_slice())
+        }
+        FileRead::NoFile => ended(alloc, Ended::NoModule),
+        FileRead::Failed => ended(alloc, Ended::FolderFault),
+        FileRead::NoMemory => ended(alloc, Ended::NoMemory),
     }
 }

@@ -4,9 +4,12 @@
 mod arguments;
 mod call;
 mod compute;
+mod computed;
 mod ended;
+mod hash;
 mod texts;
 mod top;
+mod warn;
 
 pub use arguments::{ArgumentsFault, read_arguments};
 pub use top::run;
