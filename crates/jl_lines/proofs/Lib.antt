@@ -1,0 +1,4 @@
+pub mod LineLemmas
+pub mod ReaderLemmas
+pub mod StepLemmas
+pub mod FollowLemmas

@@ -1,0 +1,144 @@
+-- What a reader of lines answers, and what it is afterwards.
+use Rattle.std.specs.Prelude.{◌≡◌, ℕ, ◌+◌, ◌-◌, ◌^◌, ◌<◌, ◌≤◌, ◌⊎◌, List, [], ◌∷◌, ◌++◌, Bool, true, false, ◌||◌, cond, nat_lt, length, take, drop}
+use Rattle.jl_lines.specs.declared.reader.NextLine.{NextLine}
+use Rattle.jl_lines.specs.declared.reader.NextLine.TheVariants as next_line
+use Rattle.jl_lines.specs.Lines.{has_newline, first_line, behind_line, body_of, lines_of}
+
+-- a reader: the longest line that it answers, how many bytes it took and how many lines it passed; whether it stands in a line that is longer than that;
+-- and the bytes that it took of lines that it hasn't passed, the front ones in no whole line. Of a line that is too long it keeps none.
+pub record ReaderView : Type 0 where
+  pub limit : ℕ
+  pub taken : ℕ
+  pub lines : ℕ
+  pub long : Bool
+  pub front : List ℕ
+  pub rest : List ℕ
+
+-- the bytes that were taken and stand in no line that was passed
+abbrev pub waiting : ReaderView → List ℕ
+waiting v = v.front ++ v.rest
+
+-- whether the line at the front of these bytes is too long; of the line in which it stands that may be known already
+abbrev pub is_long : ReaderView → List ℕ → Bool
+is_long v bytes = v.long || nat_lt v.limit (length (first_line bytes))
+
+-- the first line of the bytes is passed
+pub record Passes (old new : ReaderView) (bytes : List ℕ) (number : ℕ) : Type 0 where
+  pub number_is : number ≡ old.lines + 1
+  pub lines_is : new.lines ≡ number
+  pub long_is : new.long ≡ false
+  pub waiting_is : waiting new ≡ behind_line bytes
+
+-- no line is passed; of a line that is too long nothing is kept
+pub record Keeps (old new : ReaderView) (bytes : List ℕ) : Type 0 where
+  pub lines_is : new.lines ≡ old.lines
+  pub long_is : new.long ≡ is_long old bytes
+  pub waiting_is : waiting new ≡ cond (is_long old bytes) [] bytes
+
+-- a line ends with a newline, or with the source
+abbrev pub IsWhole : List ℕ → Type 0 → Type 0
+IsWhole bytes Ended = (has_newline bytes ≡ true) ⊎ Ended
+
+-- what is answered over the bytes that wait and those that were taken in this call; `Ended`: the source has ended
+abbrev pub Answers : ReaderView → ReaderView → List ℕ → Type 0 → NextLine → Type 0
+Answers old new bytes Ended (next_line.Line number body) = Passes old new bytes number × (is_long old bytes ≡ false) × (0 < length bytes) × (body ≡ body_of bytes) × IsWhole bytes Ended
+Answers old new bytes Ended (next_line.TooLong number) = Passes old new bytes number × (is_long old bytes ≡ true) × IsWhole bytes Ended
+Answers old new bytes Ended next_line.End = Keeps old new bytes × (old.long ≡ false) × (bytes ≡ []) × Ended
+Answers old new bytes Ended next_line.TooMuch = Keeps old new bytes × (has_newline bytes ≡ false) × (new.taken ≡ 2 ^ 40)
+Answers old new bytes Ended next_line.ReadFault = Keeps old new bytes × (has_newline bytes ≡ false)
+Answers old new bytes Ended next_line.NoMemory = Keeps old new bytes
+
+-- where the source went: the bytes taken were left, and at `TooMuch` one more
+abbrev pub LeftIs : NextLine → List ℕ → List ℕ → List ℕ → Type 0
+LeftIs (next_line.Line number body) got left left' = left ≡ got ++ left'
+LeftIs (next_line.TooLong number) got left left' = left ≡ got ++ left'
+LeftIs next_line.End got left left' = left ≡ got ++ left'
+LeftIs next_line.TooMuch got left left' = (b : ℕ) × (left ≡ got ++ b ∷ left')
+LeftIs next_line.ReadFault got left left' = left ≡ got ++ left'
+LeftIs next_line.NoMemory got left left' = left ≡ got ++ left'
+
+-- one call: the bytes that it took, and what it answers over them
+pub record NextStep (Told : Type 0) (old new : ReaderView) (left left' : List ℕ) (answer : NextLine) : Type 0 where
+  pub got : List ℕ
+  pub limit_is : new.limit ≡ old.limit
+  pub taken_is : new.taken ≡ old.taken + length got
+  pub most : new.taken ≤ 2 ^ 40
+  pub left_is : Told → LeftIs answer got left left'
+  pub answer_is : Answers old new (waiting old ++ got) (Told → left' ≡ []) answer
+
+-- where the bytes that are ahead went: the first of their lines was answered, or none; `ahead` are the bytes that wait and those that the source has left
+abbrev pub Follows : ReaderView → NextLine → List ℕ → List ℕ → Type 0
+Follows old (next_line.Line number body) ahead ahead' = (lines_of ahead ≡ first_line ahead ∷ lines_of ahead') × (body ≡ body_of ahead) × (length (first_line ahead) ≤ old.limit)
+Follows old (next_line.TooLong number) ahead ahead' = old.long ≡ false → (lines_of ahead ≡ first_line ahead ∷ lines_of ahead') × (old.limit < length (first_line ahead))
+Follows old next_line.End ahead ahead' = (lines_of ahead ≡ []) × (lines_of ahead' ≡ [])
+Follows old next_line.TooMuch ahead ahead' = Unit {0}
+Follows old next_line.ReadFault ahead ahead' = Unit {0}
+Follows old next_line.NoMemory ahead ahead' = Unit {0}
+
+-- an answer that needs no further read
+abbrev pub IsSettled : NextLine → Type 0
+IsSettled (next_line.Line number body) = Unit {0}
+IsSettled (next_line.TooLong number) = Unit {0}
+IsSettled next_line.End = Unit {0}
+IsSettled next_line.TooMuch = ⊥
+IsSettled next_line.ReadFault = ⊥
+IsSettled next_line.NoMemory = Unit {0}
+
+-- an answer over the bytes that wait; nothing was taken
+pub record Settles (Ended : Type 0) (old new : ReaderView) (answer : NextLine) : Type 0 where
+  pub kind : IsSettled answer
+  pub limit_is : new.limit ≡ old.limit
+  pub taken_is : new.taken ≡ old.taken
+  pub most : new.taken ≤ 2 ^ 40
+  pub answer_is : Answers old new (waiting old) Ended answer
+
+-- whatever bytes come behind, `new` over the bytes `there` answers what `old` answers over the bytes `here`
+pub record Stands (old new : ReaderView) (here there : List ℕ) : Type 0 where
+  pub long_is : (more : List ℕ) → is_long new (there ++ more) ≡ is_long old (here ++ more)
+  pub behind_is : (more : List ℕ) → behind_line (there ++ more) ≡ behind_line (here ++ more)
+  pub newline_is : (more : List ℕ) → has_newline (there ++ more) ≡ has_newline (here ++ more)
+  pub same : (more : List ℕ) → is_long old (here ++ more) ≡ false → there ≡ here
+
+-- bytes were taken, and no line is passed yet
+pub record Goes (Told : Type 0) (old new : ReaderView) (left left' : List ℕ) : Type 0 where
+  pub got : List ℕ
+  pub limit_is : new.limit ≡ old.limit
+  pub taken_is : new.taken ≡ old.taken + length got
+  pub lines_is : new.lines ≡ old.lines
+  pub left_is : Told → left ≡ got ++ left'
+  pub stands : Stands old new (waiting old ++ got) (waiting new)
+
+-- no whole line waited, and at least one byte was taken
+pub record Advances (Told : Type 0) (old new : ReaderView) (left left' : List ℕ) : Type 0 where
+  pub none : has_newline (waiting old) ≡ false
+  pub some : old.taken < new.taken
+  pub most : new.taken ≤ 2 ^ 40
+  pub goes : Goes Told old new left left'
+
+-- the bytes that wait are no whole line, and all of them were looked at
+pub record Looks (old new : ReaderView) : Type 0 where
+  pub limit_is : new.limit ≡ old.limit
+  pub taken_is : new.taken ≡ old.taken
+  pub none : has_newline (waiting old) ≡ false
+  pub keeps : Keeps old new (waiting old)
+  pub rest_is : new.rest ≡ []
+
+-- at least one byte was taken, behind the others, where none was left to look at
+pub record Gets (Told : Type 0) (old new : ReaderView) (left left' : List ℕ) : Type 0 where
+  pub some : 0 < length new.rest
+  pub most : new.taken ≤ 2 ^ 40
+  pub new_is : new ≡ record old { taken = old.taken + length new.rest; rest = new.rest }
+  pub left_is : Told → left ≡ new.rest ++ left'
+
+-- the first line of the bytes ends with a newline, and with it has this size
+pub record EndsAt (bytes : List ℕ) (size : ℕ) : Type 0 where
+  pub some : 0 < size
+  pub within : size ≤ length bytes
+  pub there : has_newline bytes ≡ true
+  pub first : first_line bytes ≡ take size bytes
+  pub body : body_of bytes ≡ take (size - 1) bytes
+  pub behind : behind_line bytes ≡ drop size bytes
+
+-- whether the line at the front is too long with so many bytes more
+abbrev pub is_over : ReaderView → ℕ → Bool
+is_over v count = v.long || nat_lt v.limit (length v.front + count)

@@ -1,0 +1,136 @@
+// Bytes that were read at once, and are used one part after another.
+ghost use Rattle.std.specs.Prelude.{◌≡◌, ◌<◌, ◌≤◌, [], ◌++◌, length, take, drop, vec_len};
+ghost use Rattle.std.specs.Bool.{MatchBool};
+ghost use Rattle.jl_text.specs.Counts.{Faults};
+ghost use Rattle.jl_lines.specs.Blocks.{Fills, GivesFront};
+
+use jl_streams::{Got, Source};
+use std::alloc::Global;
+use std::marker::Model;
+
+/// How a block was filled.
+#[derive(Clone, Copy, Debug, PartialEq, Eq)]
+pub enum Filled {
+    Bytes,
+    End,
+    Failed,
+    NoMemory,
+}
+
+// The longest read.
+const BLOCK: usize = 65536;
+
+#[derive(Drop)]
+pub struct Block {
+    bytes: Vec<u8>,
+    at: usize,
+    end: usize,
+}
+
+impl Model for Block {
+    ghost use Rattle.std.specs.Prelude.{List, ℕ, ◌≤◌, ◌-◌, take, drop, length};
+
+    ghost Value = { List ℕ };
+
+    ghost view = { λ b. take (b.end - b.at) (drop b.at b.bytes.items) };
+
+    ghost invariant = { λ b. (b.at ≤ b.end) × (b.end ≤ length b.bytes.items) };
+}
+
+// Reads at most so many bytes to the front of the buffer.
+fn read_front<S: Source>(source: &mut S, buf: &mut [u8], most: u64) -> Got
+    requires some { 0 < most }
+    requires room { 0 < length buf.old }
+    ensures front { GivesFront result most buf.new (S.told source.old) (S.left source.old) (S.left source.new) }
+    ensures told { S.told source.old → S.told source.new }
+    ensures faults { Faults (S.faults source.old) (S.faults source.new) (result ≡ Got.Failed) }
+{
+    let size = if most < buf.len() as u64 {
+        most as usize
+    } else {
+        buf.len()
+    };
+    source.read(&mut buf[..size])
+}
+
+impl Block {
+    pub fn new(alloc: Global) -> Block
+        ensures { result ≡ [] }
+    {
+        Block {
+            bytes: Vec::new(alloc),
+            at: 0,
+            end: 0,
+        }
+    }
+
+    /// The bytes that are left.
+    pub fn rest(&self) -> &[u8]
+        ensures { result.now ≡ self.now }
+    {
+        &self.bytes.as_slice()[self.at..self.end]
+    }
+
+    /// Passes over the first bytes.
+    pub fn pass(&mut self, count: usize)
+        requires { count ≤ length self.old }
+        ensures { self.new ≡ drop count self.old }
+    {
+        self.at += count;
+    }
+
+    // Makes the room for reads, at the first one.
+    fn make_room(&mut self, alloc: Global) -> bool
+        requires { self.old ≡ [] }
+        ensures { self.new ≡ [] }
+    {
+        self.at = 0;
+        self.end = 0;
+        if !self.bytes.is_empty() {
+            return true;
+        }
+        match vec![in alloc; 0u8; BLOCK] {
+            Ok(bytes) => {
+                self.bytes = bytes;
+                true
+            }
+            Err(_) => false,
+        }
+    }
+
+    // Reads into the room.
+    fn read<S: Source>(&mut self, source: &mut S, most: u64) -> Filled
+        requires some { 0 < most }
+        requires empty { self.old ≡ [] }
+        ensures fills { Fills result most self.new (S.told source.old) (S.left source.old) (S.left source.new) }
+        ensures told { S.told source.old → S.told source.new }
+        ensures faults { Faults (S.faults source.old) (S.faults source.new) (result ≡ Filled.Failed) }
+    {
+        if self.bytes.is_empty() {
+            return Filled::NoMemory;
+        }
+        match read_front(source, self.bytes.as_mut_slice(), most) {
+            Got::Bytes(k) => {
+                self.at = 0;
+                self.end = k;
+                Filled::Bytes
+            }
+            Got::End => Filled::End,
+            Got::Failed => Filled::Failed,
+        }
+    }
+
+    /// Reads at most so many bytes, where none is left.
+    pub fn fill<S: Source>(&mut self, alloc: Global, source: &mut S, most: u64) -> Filled
+        requires some { 0 < most }
+        requires empty { self.old ≡ [] }
+        ensures fills { Fills result most self.new (S.told source.old) (S.left source.old) (S.left source.new) }
+        ensures told { S.told source.old → S.told source.new }
+        ensures faults { Faults (S.faults source.old) (S.faults source.new) (result ≡ Filled.Failed) }
+    {
+        if !self.make_room(alloc) {
+            return Filled::NoMemory;
+        }
+        self.read(source, most)
+    }
+}

@@ -1,0 +1,287 @@
+// Reads lines.
+ghost use Rattle.std.specs.Prelude.{◌≡◌, ◌+◌, ◌^◌, ◌<◌, ◌≤◌, ◌++◌, [], true, false, ⊤, Some, length, nat_lt, ◌||◌, position, MatchOption, MatchBool};
+ghost use Rattle.jl_text.specs.Counts.{Faults};
+ghost use Rattle.jl_lines.specs.Lines.{has_newline, is_newline};
+ghost use Rattle.jl_lines.specs.Readers.{IsReader};
+ghost use Rattle.jl_lines.specs.Steps.{NextStep, Follows, Looks, Gets, EndsAt, Advances, Settles, is_over, waiting};
+
+use crate::block::{Block, Filled};
+use jl_streams::{Got, Source};
+use jl_text::Bytes;
+use std::alloc::Global;
+use std::marker::Model;
+use std::mem;
+
+/// The answer of `LineReader::next`. Lines count from 1.
+#[derive(Debug, Drop)]
+pub enum NextLine {
+    /// A line without its newline.
+    Line { no: u64, bytes: Bytes },
+    /// The source has ended, and every byte of it stands in a line that was answered.
+    End,
+    /// A line that is longer, with its newline, than the limit. The reader stands behind it.
+    TooLong { no: u64 },
+    /// So many bytes were taken as a reader takes at most, and the source goes on.
+    TooMuch,
+    /// A read failed.
+    ReadFault,
+    NoMemory,
+}
+
+// How many bytes a reader takes at most: 2^40.
+const MOST: u64 = 1 << 40;
+
+/// Reads the lines of a source, in whatever pieces its bytes come.
+#[derive(Drop)]
+pub struct LineReader {
+    limit: u64,
+    taken: u64,
+    lines: u64,
+    long: bool,
+    front: Vec<u8>,
+    block: Block,
+}
+
+impl Model for LineReader {
+    ghost use Rattle.jl_lines.specs.Steps.{ReaderView};
+    ghost use Rattle.jl_lines.specs.Readers.{IsReader};
+
+    ghost Value = { ReaderView };
+
+    ghost view = { λ r. record { limit = r.limit; taken = r.taken; lines = r.lines; long = r.long; front = r.front.items; rest = r.block } };
+
+    ghost invariant = { λ r. IsReader (record { limit = r.limit; taken = r.taken; lines = r.lines; long = r.long; front = r.front.items; rest = r.block }) };
+}
+
+// Where the first newline is.
+fn newline_in(bytes: &[u8]) -> Option<usize>
+    ensures { result ≡ position is_newline bytes.now }
+{
+    bytes.iter().position(|b| *b == b'\n')
+}
+
+// How many bytes the first line has with its newline, if it ends among these.
+fn line_size(bytes: &[u8]) -> Option<usize>
+    ensures { MatchOption result (has_newline bytes.now ≡ false) (λ size. EndsAt bytes.now size) }
+{
+    match newline_in(bytes) {
+        Some(count) => Some(count + 1),
+        None => None,
+    }
+}
+
+impl LineReader {
+    /// A reader of lines of at most so many bytes, with their newline.
+    pub fn new(alloc: Global, limit: u64) -> LineReader
+        ensures { result ≡ record { limit = limit; taken = 0; lines = 0; long = false; front = []; rest = [] } }
+    {
+        LineReader {
+            limit,
+            taken: 0,
+            lines: 0,
+            long: false,
+            front: Vec::new(alloc),
+            block: Block::new(alloc),
+        }
+    }
+
+    // A reader that took so many bytes before, all in lines that it passed.
+    #[cfg(test)]
+    pub fn after(alloc: Global, limit: u64, taken: u64) -> LineReader
+        requires { taken ≤ 2 ^ 40 }
+    {
+        LineReader {
+            limit,
+            taken,
+            lines: 0,
+            long: false,
+            front: Vec::new(alloc),
+            block: Block::new(alloc),
+        }
+    }
+
+    // Whether the line at the front is too long with so many bytes more.
+    fn is_over(&self, count: usize) -> bool
+        requires { count ≤ length self.now.rest }
+        ensures { result ≡ is_over self.now count }
+    {
+        if self.long {
+            return true;
+        }
+        self.limit < self.front.len() as u64 + count as u64
+    }
+
+    // Passes the line at the front, which is too long and ends with so many bytes more.
+    fn pass_long(&mut self, size: usize) -> NextLine
+        requires ends { EndsAt self.old.rest size }
+        requires over { is_over self.old size ≡ true }
+        ensures { Settles (⊥) self.old self.new result }
+    {
+        self.lines += 1;
+        self.long = false;
+        self.front.clear();
+        self.block.pass(size);
+        NextLine::TooLong { no: self.lines }
+    }
+
+    // Takes the line at the front, which ends with so many bytes more.
+    fn take_short(&mut self, alloc: Global, size: usize) -> NextLine
+        requires ends { EndsAt self.old.rest size }
+        requires short { is_over self.old size ≡ false }
+        ensures { Settles (⊥) self.old self.new result }
+    {
+        match self.front.extend_from_slice(&self.block.rest()[..size - 1]) {
+            Ok(()) => {}
+            Err(_) => return NextLine::NoMemory,
+        }
+        self.lines += 1;
+        self.block.pass(size);
+        NextLine::Line {
+            no: self.lines,
+            bytes: Bytes::new(mem::replace(&mut self.front, Vec::new(alloc))),
+        }
+    }
+
+    // Passes the line at the front, which ends with so many bytes more.
+    fn close_line(&mut self, alloc: Global, size: usize) -> NextLine
+        requires { EndsAt self.old.rest size }
+        ensures { Settles (⊥) self.old self.new result }
+    {
+        if self.is_over(size) {
+            return self.pass_long(size);
+        }
+        self.take_short(alloc, size)
+    }
+
+    // Looks over the bytes of the line at the front, which doesn't end among them. Says whether there is memory to keep them.
+    fn look_over(&mut self) -> bool
+        requires { has_newline self.old.rest ≡ false }
+        ensures { MatchBool result (Looks self.old self.new) ((self.new ≡ self.old) × (is_over self.old (length self.old.rest) ≡ false)) }
+    {
+        let count = self.block.rest().len();
+        if self.is_over(count) {
+            self.long = true;
+            self.front.clear();
+        } else {
+            match self.front.extend_from_slice(self.block.rest()) {
+                Ok(()) => {}
+                Err(_) => return false,
+            }
+        }
+        self.block.pass(count);
+        true
+    }
+
+    // Passes the line at the front, if it ends among the bytes that wait.
+    fn take_line(&mut self, alloc: Global) -> Option<NextLine>
+        ensures { MatchOption result (Looks self.old self.new) (λ answer. Settles (⊥) self.old self.new answer) }
+    {
+        match line_size(self.block.rest()) {
+            Some(size) => Some(self.close_line(alloc, size)),
+            None => {
+                if self.look_over() {
+                    None
+                } else {
+                    Some(NextLine::NoMemory)
+                }
+            }
+        }
+    }
+
+    // The answer where the source has ended.
+    fn last_line(&mut self, alloc: Global) -> NextLine
+        requires { self.old.rest ≡ [] }
+        ensures { Settles (⊤) self.old self.new result }
+    {
+        if self.long {
+            self.long = false;
+            self.lines += 1;
+            return NextLine::TooLong { no: self.lines };
+        }
+        if self.front.is_empty() {
+            return NextLine::End;
+        }
+        self.lines += 1;
+        NextLine::Line {
+            no: self.lines,
+            bytes: Bytes::new(mem::replace(&mut self.front, Vec::new(alloc))),
+        }
+    }
+
+    // Looks whether the source goes on, where no more bytes are taken.
+    fn probe<S: Source>(&mut self, alloc: Global, source: &mut S) -> NextLine
+        requires rest { self.old.rest ≡ [] }
+        requires most { self.old.taken ≡ 2 ^ 40 }
+        requires reader { IsReader self.old }
+        ensures step { NextStep (S.told source.old) self.old self.new (S.left source.old) (S.left source.new) result }
+        ensures told { S.told source.old → S.told source.new }
+        ensures faults { Faults (S.faults source.old) (S.faults source.new) (result ≡ NextLine.ReadFault) }
+    {
+        let mut byte = [0u8; 1];
+        match source.read(&mut byte) {
+            Got::Bytes(_) => NextLine::TooMuch,
+            Got::End => self.last_line(alloc),
+            Got::Failed => NextLine::ReadFault,
+        }
+    }
+
+    // Takes more bytes.
+    fn take_bytes<S: Source>(&mut self, alloc: Global, source: &mut S) -> Option<NextLine>
+        requires rest { self.old.rest ≡ [] }
+        requires room { self.old.taken < 2 ^ 40 }
+        ensures cases { MatchOption result (Gets (S.told source.old) self.old self.new (S.left source.old) (S.left source.new)) (λ answer. NextStep (S.told source.old) self.old self.new (S.left source.old) (S.left source.new) answer) }
+        ensures told { S.told source.old → S.told source.new }
+        ensures faults { Faults (S.faults source.old) (S.faults source.new) (result ≡ Some NextLine.ReadFault) }
+    {
+        match self.block.fill(alloc, source, MOST - self.taken) {
+            Filled::Bytes => {
+                self.taken += self.block.rest().len() as u64;
+                None
+            }
+            Filled::End => Some(self.last_line(alloc)),
+            Filled::Failed => Some(NextLine::ReadFault),
+            Filled::NoMemory => Some(NextLine::NoMemory),
+        }
+    }
+
+    // Takes more bytes, if there may be more.
+    fn go_on<S: Source>(&mut self, alloc: Global, source: &mut S) -> Option<NextLine>
+        requires { self.old.rest ≡ [] }
+        ensures cases { MatchOption result (Gets (S.told source.old) self.old self.new (S.left source.old) (S.left source.new)) (λ answer. NextStep (S.told source.old) self.old self.new (S.left source.old) (S.left source.new) answer) }
+        ensures told { S.told source.old → S.told source.new }
+        ensures faults { Faults (S.faults source.old) (S.faults source.new) (result ≡ Some NextLine.ReadFault) }
+    {
+        if self.taken == MOST {
+            return Some(self.probe(alloc, source));
+        }
+        self.take_bytes(alloc, source)
+    }
+
+    // Passes the line at the front, or takes more bytes.
+    fn advance<S: Source>(&mut self, alloc: Global, source: &mut S) -> Option<NextLine>
+        ensures cases { MatchOption result (Advances (S.told source.old) self.old self.new (S.left source.old) (S.left source.new)) (λ answer. NextStep (S.told source.old) self.old self.new (S.left source.old) (S.left source.new) answer) }
+        ensures still { has_newline (waiting self.old) ≡ true → source.new ≡ source.old }
+        ensures told { S.told source.old → S.told source.new }
+        ensures faults { Faults (S.faults source.old) (S.faults source.new) (result ≡ Some NextLine.ReadFault) }
+    {
+        match self.take_line(alloc) {
+            Some(answer) => Some(answer),
+            None => self.go_on(alloc, source),
+        }
+    }
+
+    /// The next line. The source is read only where no whole line waits.
+    pub fn next<S: Source>(&mut self, alloc: Global, source: &mut S) -> NextLine
+        ensures step { NextStep (S.told source.old) self.old self.new (S.left source.old) (S.left source.new) result }
+        ensures lines { S.told source.old → Follows self.old result (waiting self.old ++ S.left source.old) (waiting self.new ++ S.left source.new) }
+        ensures still { has_newline (waiting self.old) ≡ true → source.new ≡ source.old }
+        ensures told { S.told source.old → S.told source.new }
+        ensures faults { Faults (S.faults source.old) (S.faults source.new) (result ≡ NextLine.ReadFault) }
+    {
+        'reads: loop {
+            if let Some(answer) = self.advance(alloc, source) {
+                return answer;
+            }
+        }
+    }
+}
