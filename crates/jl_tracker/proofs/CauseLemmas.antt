@@ -1,0 +1,223 @@
+-- A folder that couldn't be removed, by the states of its removal.
+use Rattle.std.proofs.Common.{◌≡◌, ◌≢◌, ℕ, zero, suc, ◌+◌, ◌-◌, ◌^◌, ◌<◌, ◌≤◌, ◌⊎◌, inl, inr, List, [], ◌∷◌, ◌++◌, Bool, true, false, cond, min, Option, Some, None, length, get_or, true≢false, sym, ◌∙◌, ap, subst, refl, arith}
+use Rattle.std.specs.List.{Contains}
+use Rattle.std.specs.Option.{option_map_or}
+use Rattle.std.specs.Cmp.Lexicographic.{lists_equiv, nat_list_eq_equiv}
+use Rattle.std.proofs.lemmas.List.{append-nil, append_assoc}
+use Rattle.std.proofs.lemmas.Bool.Decides.{leb_tells}
+use Rattle.jl_text.specs.Paths.{PathView, path_eq}
+use Rattle.jl_folder.specs.State.{State, Trace, Event, History, AtSome, AtEach, place_at, is_file, is_file_place, is_folder, is_folder_place, run, after, now, since}
+use Rattle.jl_folder.specs.Calls.{Call, Waits, Maybe, IsKept, own_event}
+use Rattle.jl_text.specs.Counts.{Rose}
+use Rattle.jl_folder.specs.Listing.{Stands, ListsNames}
+use Rattle.jl_folder.specs.Looks.{place_after}
+use Rattle.jl_folder.specs.declared.listing.Name.{Name}
+use Rattle.jl_folder.specs.declared.moves.Place.{Place}
+use Rattle.jl_folder.specs.declared.moves.Place.TheVariants.{Folder, File}
+use Rattle.jl_folder.specs.declared.moves.Move.{Move}
+use Rattle.jl_folder.specs.declared.moves.Move.TheVariants.{Remove, RemoveDir}
+use Rattle.jl_folder.proofs.Looks.{place_at-after}
+use Rattle.jl_folder.proofs.Traces.{run-append}
+use Rattle.jl_folder.proofs.ReadingLemmas.{since-is, now-on}
+use Rattle.jl_tracker.specs.Removing.{TriesFile, TriesFolder, TriedFile, TriedName, TriedNames, TriedFolder, NotListed, RemovesFolder}
+use Rattle.jl_tracker.specs.Causes.{WentAway, StillHolds, HasCause}
+
+-- the moves from one history to a later one
+record Steps (a b : History) (es : Trace) : Type 0 where
+  start : b.start ≡ a.start
+  trace : b.trace ≡ a.trace ++ es
+
+steps_none : (a b : History) → b ≡ a → Steps a b []
+steps_none a b e = record { start = ap (λ h. h.start) e; trace = ap (λ h. h.trace) e ∙ sym (append-nil a.trace) }
+
+steps_trans : (a m b : History) (es fs : Trace) → Steps a m es → Steps m b fs → Steps a b (es ++ fs)
+steps_trans a m b es fs p q = record { start = q.start ∙ p.start; trace = q.trace ∙ ap (λ t. t ++ fs) p.trace ∙ append_assoc a.trace es fs }
+
+-- a state of some of the moves is one of more moves
+at_later : (s : State) (es fs : Trace) (P : State → Type 0) → AtSome s es P → AtSome s (es ++ fs) P
+at_later s es fs P h = (h.0, h.1 ++ fs, ap (λ l. l ++ fs) h.2 ∙ append_assoc h.0 h.1 fs, h.3)
+
+at_behind : (s : State) (es fs : Trace) (P : State → Type 0) → AtSome (run s es) fs P → AtSome s (es ++ fs) P
+at_behind s es fs P h = (es ++ h.0, h.1, ap (λ l. es ++ l) h.2 ∙ sym (append_assoc es h.0 h.1), subst P (sym (run-append s es h.0)) h.3)
+
+-- a file is away at some state, or there at each
+here_or_away : (s : State) (es : Trace) (q : PathView) → AtSome s es (λ x. is_file x q ≡ false) ⊎ AtEach s es (λ x. is_file x q ≡ true)
+here_or_away s [] q = elim (is_file s q) as (λ v. is_file s q ≡ v → AtSome s [] (λ x. is_file x q ≡ false) ⊎ AtEach s [] (λ x. is_file x q ≡ true)) [
+  | true ↦ λ e. inr (all e)
+  | false ↦ λ e. inl ([], [], refl, e)
+] refl
+  where
+    all : is_file s q ≡ true → (before later : Trace) → [] ≡ before ++ later → is_file (run s before) q ≡ true
+    all e [] later split = e
+    all e (x ∷ xs) later split = absurd (apart x (xs ++ later) split)
+      where
+        apart : (x : Event) (xs : Trace) → ◌≡◌ {A = Trace} [] (x ∷ xs) → ⊥
+        apart x xs e = cc
+here_or_away s (e ∷ es) q =
+    let more = here_or_away (after s e) es q in
+    elim (is_file s q) as (λ v. is_file s q ≡ v → AtSome s (e ∷ es) (λ x. is_file x q ≡ false) ⊎ AtEach s (e ∷ es) (λ x. is_file x q ≡ true)) [
+      | true ↦ λ h. rest h more
+      | false ↦ λ h. inl ([], e ∷ es, refl, h)
+    ] refl
+  where
+    head_is : (x y : Event) (xs ys : Trace) → ◌≡◌ {A = Trace} (x ∷ xs) (y ∷ ys) → x ≡ y
+    head_is x y xs ys p = cc
+
+    tail_is : (x y : Event) (xs ys : Trace) → ◌≡◌ {A = Trace} (x ∷ xs) (y ∷ ys) → xs ≡ ys
+    tail_is x y xs ys p = cc
+
+    each_on : is_file s q ≡ true → AtEach (after s e) es (λ x. is_file x q ≡ true) → (before later : Trace) → e ∷ es ≡ before ++ later → is_file (run s before) q ≡ true
+    each_on h each [] later split = h
+    each_on h each (x ∷ xs) later split = subst (λ y. is_file (run (after s y) xs) q ≡ true) (head_is e x es (xs ++ later) split) (each xs later (tail_is e x es (xs ++ later) split))
+
+    rest : is_file s q ≡ true → AtSome (after s e) es (λ x. is_file x q ≡ false) ⊎ AtEach (after s e) es (λ x. is_file x q ≡ true) → AtSome s (e ∷ es) (λ x. is_file x q ≡ false) ⊎ AtEach s (e ∷ es) (λ x. is_file x q ≡ true)
+    rest h (inl r) = inl (e ∷ r.0, r.1, ap (λ l. e ∷ l) r.2, r.3)
+    rest h (inr each) = inr (each_on h each)
+
+-- a count that rose in a part
+rose_in : (f m n g : ℕ) → f ≤ m → n ≤ g → Rose m n → Rose f g
+rose_in f m n g le ge rose = omega (arith, le, ge, rose)
+
+-- a path names no file once it was taken away
+gone_after : (s : State) (me : List ℕ) (q : PathView) → is_file (after s (me, Remove q)) q ≡ false
+gone_after s me q = ap (λ o. option_map_or is_file_place o false) (place_at-after s (me, Remove q) q) ∙ gone
+  where
+    gone : option_map_or is_file_place (cond (path_eq q q) None (place_at s q)) false ≡ false
+    gone = ap (λ v. option_map_or is_file_place (cond v None (place_at s q)) false) ((lists_equiv nat_list_eq_equiv).refl q)
+
+-- a name that was tried: its file was away at some state, or the count rose
+record TriedOne (folder : Bool) (q : PathView) (a m : History) (f n : ℕ) : Type 0 where
+  moves : Trace
+  steps : Steps a m moves
+  later : f ≤ n
+  gone : folder ≡ false → Rose f n ⊎ AtSome (now a) moves (λ x. is_file x q ≡ false)
+
+tried_one : (me : List ℕ) (folder : Bool) (q : PathView) (a m : History) (f n : ℕ) → TriedName folder me q a m f n → TriedOne folder q a m f n
+tried_one me true q a m f n t = record { moves = []; steps = steps_none a m t.0; later = omega (arith, t.1); gone = λ e. absurd (true≢false e) }
+tried_one me false q a m f n t = record {
+  moves = t.1.call.others ++ own_event me t.1.call.own;
+  steps = record { start = t.1.call.start; trace = t.1.call.trace };
+  later = t.1.later;
+  gone = λ e. go t.0 t.1.call.own t.1.call.answer;
+}
+  where
+    go : (done : Bool) (own : Option Move) → TriesFile q done f n (run (now a) t.1.call.others) own → Rose f n ⊎ AtSome (now a) (t.1.call.others ++ own_event me own) (λ x. is_file x q ≡ false)
+    go true own h = inr (at_behind (now a) t.1.call.others (own_event me own) (λ x. is_file x q ≡ false)
+        (subst (λ o. AtSome (run (now a) t.1.call.others) (own_event me o) (λ x. is_file x q ≡ false)) (sym h.1) ((me, Remove q) ∷ [], [], refl, gone_after (run (now a) t.1.call.others) me q)))
+    go false own (inl h) = inr (t.1.call.others, own_event me own, refl, h.0)
+    go false own (inr h) = inl h.0
+
+-- one of the names
+Among : Name → List Name → Type 0
+Among n [] = ⊥
+Among n (x ∷ xs) = (x ≡ n) ⊎ Among n xs
+
+among : (xs : List Name) (n : Name) (k : ℕ) → k < length xs → get_or xs k n ≡ n → Among n xs
+unfolding Among
+among [] n k lt e = absurd (omega (arith, lt))
+among (x ∷ xs) n zero lt e = inl e
+among (x ∷ xs) n (suc k) lt e = inr (among xs n k (omega (arith, lt)) e)
+
+-- names that were tried: each one's file was away at some state, or the count rose
+record TriedMany (p : PathView) (names : List Name) (a b : History) (f g : ℕ) : Type 0 where
+  moves : Trace
+  steps : Steps a b moves
+  later : f ≤ g
+  gone : (n : Name) → Among n names → n.folder ≡ false → Rose f g ⊎ AtSome (now a) moves (λ x. is_file x (p ++ n.part ∷ []) ≡ false)
+
+tried_many : (me : List ℕ) (p : PathView) (names : List Name) (a b : History) (f g : ℕ) → TriedNames me p names a b f g → TriedMany p names a b f g
+unfolding Among
+tried_many me p [] a b f g t = record { moves = []; steps = steps_none a b t.0; later = omega (arith, t.1); gone = λ n m e. absurd m }
+tried_many me p (x ∷ xs) a b f g t =
+    let one = tried_one me x.folder (p ++ x.part ∷ []) a t.0 f t.1 t.2 in
+    let rest = tried_many me p xs t.0 b t.1 g t.3 in record {
+      moves = one.moves ++ rest.moves;
+      steps = steps_trans a t.0 b one.moves rest.moves one.steps rest.steps;
+      later = omega (arith, one.later, rest.later);
+      gone = λ n m e. pick one rest n m e;
+    }
+  where
+    pick : (one : TriedOne x.folder (p ++ x.part ∷ []) a t.0 f t.1) (rest : TriedMany p xs t.0 b t.1 g) (n : Name) → (x ≡ n) ⊎ Among n xs → n.folder ≡ false → Rose f g ⊎ AtSome (now a) (one.moves ++ rest.moves) (λ y. is_file y (p ++ n.part ∷ []) ≡ false)
+    pick one rest n (inl same) e = subst (λ k. Rose f g ⊎ AtSome (now a) (one.moves ++ rest.moves) (λ y. is_file y (p ++ k.part ∷ []) ≡ false)) same (first (one.gone (ap (λ k. k.folder) same ∙ e)))
+      where
+        first : Rose f t.1 ⊎ AtSome (now a) one.moves (λ y. is_file y (p ++ x.part ∷ []) ≡ false) → Rose f g ⊎ AtSome (now a) (one.moves ++ rest.moves) (λ y. is_file y (p ++ x.part ∷ []) ≡ false)
+        first (inl r) = inl (rose_in f f t.1 g (omega arith) rest.later r)
+        first (inr h) = inr (at_later (now a) one.moves rest.moves (λ y. is_file y (p ++ x.part ∷ []) ≡ false) h)
+    pick one rest n (inr m) e = next (rest.gone n m e)
+      where
+        next : Rose t.1 g ⊎ AtSome (now t.0) rest.moves (λ y. is_file y (p ++ n.part ∷ []) ≡ false) → Rose f g ⊎ AtSome (now a) (one.moves ++ rest.moves) (λ y. is_file y (p ++ n.part ∷ []) ≡ false)
+        next (inl r) = inl (rose_in f t.1 g g one.later (omega arith) r)
+        next (inr h) = inr (at_behind (now a) one.moves rest.moves (λ y. is_file y (p ++ n.part ∷ []) ≡ false) (subst (λ s. AtSome s rest.moves (λ y. is_file y (p ++ n.part ∷ []) ≡ false)) (now-on a t.0 one.moves one.steps.start one.steps.trace) h))
+
+-- what stands there as a file
+file_stands : (o : Option Place) → option_map_or is_file_place o false ≡ true → (place : Place) × (o ≡ Some place) × (is_folder_place place ≡ false)
+file_stands None e = absurd (true≢false (sym e))
+file_stands (Some Folder) e = absurd (true≢false (sym e))
+file_stands (Some (File n)) e = (File n, refl, refl)
+
+-- a folder that was listed and couldn't be taken away
+tried_cause : (me : List ℕ) (p : PathView) (a b : History) (f g : ℕ) → TriedFolder me p false a b f g → HasCause p a b f g
+tried_cause me p a b f g t = go t.call.own t.call.answer whole
+  where
+    many : TriedMany p t.names t.listed t.emptied t.at_list t.at_names
+    many = tried_many me p t.names t.listed t.emptied t.at_list t.at_names t.tries
+
+    whole : since a b ≡ (t.list.waits.others ++ (many.moves ++ t.call.others)) ++ own_event me t.call.own
+    whole = since-is a b (t.list.waits.others ++ (many.moves ++ (t.call.others ++ own_event me t.call.own)))
+        (t.call.trace ∙ ap (λ l. l ++ (t.call.others ++ own_event me t.call.own)) (many.steps.trace ∙ ap (λ l. l ++ many.moves) t.list.waits.trace ∙ append_assoc a.trace t.list.waits.others many.moves)
+        ∙ append_assoc a.trace (t.list.waits.others ++ many.moves) (t.call.others ++ own_event me t.call.own) ∙ ap (λ l. a.trace ++ l) (append_assoc t.list.waits.others many.moves (t.call.others ++ own_event me t.call.own)))
+        ∙ ap (λ l. t.list.waits.others ++ l) (sym (append_assoc many.moves t.call.others (own_event me t.call.own))) ∙ sym (append_assoc t.list.waits.others (many.moves ++ t.call.others) (own_event me t.call.own))
+
+    at_list : now t.listed ≡ run (now a) t.list.waits.others
+    at_list = now-on a t.listed t.list.waits.others t.list.waits.start t.list.waits.trace
+
+    at_empty : now t.emptied ≡ run (now t.listed) many.moves
+    at_empty = now-on t.listed t.emptied many.moves many.steps.start many.steps.trace
+
+    at_lead : run (now t.emptied) t.call.others ≡ run (now a) (t.list.waits.others ++ (many.moves ++ t.call.others))
+    at_lead = ap (λ s. run s t.call.others) (at_empty ∙ ap (λ s. run s many.moves) at_list) ∙ sym (run-append (now a) t.list.waits.others (many.moves ++ t.call.others) ∙ run-append (run (now a) t.list.waits.others) many.moves t.call.others)
+
+    away : (Rose f g → ⊥) → WentAway (now a) (t.list.waits.others ++ (many.moves ++ t.call.others)) p
+    away still part named here = pick (here_or_away (now a) t.list.waits.others (p ++ part ∷ []))
+      where
+        tried : Rose t.at_list t.at_names ⊎ AtSome (now t.listed) many.moves (λ x. is_file x (p ++ part ∷ []) ≡ false) → AtSome (now a) (t.list.waits.others ++ (many.moves ++ t.call.others)) (λ x. is_file x (p ++ part ∷ []) ≡ false)
+        tried (inl r) = absurd (still (rose_in f t.at_list t.at_names g t.list.later t.later r))
+        tried (inr h) = at_behind (now a) t.list.waits.others (many.moves ++ t.call.others) (λ x. is_file x (p ++ part ∷ []) ≡ false)
+            (at_later (run (now a) t.list.waits.others) many.moves t.call.others (λ x. is_file x (p ++ part ∷ []) ≡ false) (subst (λ s. AtSome s many.moves (λ x. is_file x (p ++ part ∷ []) ≡ false)) at_list h))
+
+        pick : AtSome (now a) t.list.waits.others (λ x. is_file x (p ++ part ∷ []) ≡ false) ⊎ AtEach (now a) t.list.waits.others (λ x. is_file x (p ++ part ∷ []) ≡ true) → AtSome (now a) (t.list.waits.others ++ (many.moves ++ t.call.others)) (λ x. is_file x (p ++ part ∷ []) ≡ false)
+        pick (inl h) = at_later (now a) t.list.waits.others (many.moves ++ t.call.others) (λ x. is_file x (p ++ part ∷ []) ≡ false) h
+        pick (inr each) =
+            let found = t.list.lists.every (record { part = part; folder = false }) (λ before later split.
+            let s = file_stands (place_at (run (now a) before) (p ++ part ∷ [])) (each before later (sym (since-is a t.listed t.list.waits.others t.list.waits.trace) ∙ split)) in
+            record { place = s.0; place_is = s.1; kind = s.2; named = named }) in
+            tried (many.gone (record { part = part; folder = false }) (among t.names (record { part = part; folder = false }) found.0 found.1 found.2) refl)
+
+    decide : is_folder (run (now t.emptied) t.call.others) p ≡ true → IsKept (run (now t.emptied) t.call.others) p → since a b ≡ (t.list.waits.others ++ (many.moves ++ t.call.others)) ++ own_event me t.call.own → HasCause p a b f g
+    decide there kept split = elim (leb_tells (min (f + 1) (2 ^ 64 - 1)) g) [
+      | inl r ↦ inr (inr r.1)
+      | inr r ↦ inr (inl record {
+        before = (t.list.waits.others ++ (many.moves ++ t.call.others));
+        later = own_event me t.call.own;
+        split = split;
+        away = away (λ rose. absurd (omega (arith, r.1, rose)));
+        there = subst (λ s. is_folder s p ≡ true) at_lead there;
+        kept = subst (λ s. IsKept s p) at_lead kept;
+      })
+    ]
+
+    go : (own : Option Move) → TriesFolder p false t.at_names g (run (now t.emptied) t.call.others) own → since a b ≡ (t.list.waits.others ++ (many.moves ++ t.call.others)) ++ own_event me t.call.own → HasCause p a b f g
+    go own (inl h) split = inl ((t.list.waits.others ++ (many.moves ++ t.call.others)), own_event me t.call.own, split, subst (λ s. is_folder s p ≡ false) at_lead h.0)
+    go own (inr (inl h)) split = decide h.0 h.1 split
+    go own (inr (inr h)) split = inr (inr (rose_in f t.at_names g g le (omega arith) h.0))
+      where
+        le : f ≤ t.at_names
+        le = omega (arith, t.list.later, many.later)
+
+-- a folder that couldn't be removed
+pub folder_cause : (me : List ℕ) (p : PathView) (a b : History) (f g : ℕ) → RemovesFolder me p false a b f g → HasCause p a b f g
+folder_cause me p a b f g (inl t) = elim t.why [
+  | inl h ↦ inl h
+  | inr r ↦ inr (inr r)
+]
+folder_cause me p a b f g (inr t) = tried_cause me p a b f g t

@@ -1,0 +1,106 @@
+-- The tracker goes on, line by line.
+use Rattle.std.proofs.Common.{◌≡◌, ℕ, suc, ◌+◌, ◌<◌, ◌≤◌, ◌⊎◌, inl, inr, List, [], ◌∷◌, ◌++◌, Bool, true, false, ◌||◌, cond, Option, Some, None, length, nat_lt, true≢false, sym, ◌∙◌, ap, subst, refl, arith, length-append}
+use Rattle.std.proofs.lemmas.List.{append-nil, append_assoc}
+use Rattle.jl_lines.specs.declared.reader.NextLine.{NextLine}
+use Rattle.jl_lines.specs.declared.reader.NextLine.TheVariants as next_line
+use Rattle.jl_lines.specs.Lines.{is_newline, has_newline, first_line, behind_line, body_of, put_before, lines_of}
+use Rattle.jl_lines.specs.Steps.{ReaderView, waiting, is_long, Passes, Keeps, IsWhole, Answers, LeftIs, NextStep}
+use Rattle.jl_lines.proofs.LineLemmas.{behind_line_all}
+use Rattle.jl_lines.proofs.FollowLemmas.{lines_first}
+use Rattle.std.proofs.lemmas.Bool.Decides.{Decides-ltb, leb_tells}
+use Rattle.jl_tracker.specs.TrackerLines.{LineView, registers, unregisters, may_unlink, probes, IsTrackerLine}
+use Rattle.jl_tracker.specs.Counting.{CountsView, no_counts, after_line, answer_of}
+use Rattle.jl_tracker.specs.Effects.{Effect, IsReading, IsLineReading, AreReadings, line_effects, after_read, effects_from, counts_after, end_effects}
+use Rattle.jl_tracker.specs.Tracking.{EndsLines, Seen, Going}
+
+-- a line and what stands behind it are the bytes
+pub line_split : (bs : List ℕ) → first_line bs ++ behind_line bs ≡ bs
+line_split [] = refl
+line_split (b ∷ bs) =
+    let more = line_split bs in
+    elim (is_newline b) as (λ v. b ∷ (cond v [] (first_line bs) ++ cond v bs (behind_line bs)) ≡ b ∷ bs) [ true ↦ refl | false ↦ ap (λ l. b ∷ l) more ]
+
+-- a line alone
+line_alone : (bs : List ℕ) → 0 < length bs → lines_of (first_line bs) ≡ first_line bs ∷ []
+line_alone [] lt = absurd (omega (arith, lt))
+line_alone (b ∷ []) lt = elim (is_newline b) as (λ v. is_newline b ≡ v → lines_of (b ∷ cond v [] []) ≡ (b ∷ cond v [] []) ∷ []) [
+  | true ↦ λ e. ap (λ v. cond v ((b ∷ []) ∷ []) ((b ∷ []) ∷ [])) e
+  | false ↦ λ e. ap (λ v. cond v ((b ∷ []) ∷ []) ((b ∷ []) ∷ [])) e
+] refl
+line_alone (b ∷ x ∷ xs) lt =
+    let more = line_alone (x ∷ xs) (omega arith) in
+    elim (is_newline b) as (λ v. is_newline b ≡ v → lines_of (b ∷ cond v [] (first_line (x ∷ xs))) ≡ (b ∷ cond v [] (first_line (x ∷ xs))) ∷ []) [
+      | true ↦ λ e. ap (λ v. cond v ((b ∷ []) ∷ []) ((b ∷ []) ∷ [])) e
+      | false ↦ λ e. ap (λ v. cond v ((b ∷ []) ∷ lines_of (first_line (x ∷ xs))) (put_before b (lines_of (first_line (x ∷ xs))))) e ∙ ap (put_before b) more
+    ] refl
+
+-- a whole line, and what comes behind
+whole_line : (bs more : List ℕ) → has_newline bs ≡ true → lines_of (first_line bs ++ more) ≡ first_line bs ∷ lines_of more
+whole_line [] more there = absurd (true≢false (sym there))
+whole_line (b ∷ bs) more there = elim (is_newline b) as (λ v. is_newline b ≡ v → (v || has_newline bs) ≡ true → lines_of (b ∷ (cond v [] (first_line bs) ++ more)) ≡ (b ∷ cond v [] (first_line bs)) ∷ lines_of more) [
+  | true ↦ λ e h. ap (λ v. cond v ((b ∷ []) ∷ lines_of more) (put_before b (lines_of more))) e
+  | false ↦ λ e h. ap (λ v. cond v ((b ∷ []) ∷ lines_of (first_line bs ++ more)) (put_before b (lines_of (first_line bs ++ more)))) e ∙ ap (put_before b) (whole_line bs more h)
+] refl there
+
+-- the body of the first line
+body_first : (bs : List ℕ) → body_of (first_line bs) ≡ body_of bs
+body_first [] = refl
+body_first (b ∷ bs) =
+    let more = body_first bs in
+    elim (is_newline b) as (λ v. is_newline b ≡ v → body_of (b ∷ cond v [] (first_line bs)) ≡ cond v [] (b ∷ body_of bs)) [
+      | true ↦ λ e. ap (λ v. cond v [] (b ∷ [])) e
+      | false ↦ λ e. ap (λ v. cond v [] (b ∷ body_of (first_line bs))) e ∙ ap (λ l. b ∷ l) more
+    ] refl
+
+-- one more line was seen
+pub seen_line : (lines : List (List ℕ)) (left w got left₁ left₂ w' : List ℕ) → Seen lines left (w ++ left₁) → left₁ ≡ got ++ left₂ → 0 < length (w ++ got) → IsWhole (w ++ got) (left₂ ≡ []) → w' ≡ behind_line (w ++ got)
+    → Seen (lines ++ first_line (w ++ got) ∷ []) left (w' ++ left₂)
+seen_line lines left w got left₁ left₂ w' s took some whole next = elim s.ends [
+  | inl ends ↦ record {
+    input = s.input ++ first_line (w ++ got);
+    left_is = s.left_is ∙ ap (λ l. s.input ++ l) behind_is ∙ sym (append_assoc s.input (first_line (w ++ got)) (w' ++ left₂));
+    lines_is = ap (λ l. l ++ first_line (w ++ got) ∷ []) s.lines_is ∙ sym (ends (first_line (w ++ got)) ∙ ap (λ l. lines_of s.input ++ l) (line_alone (w ++ got) some));
+    ends = elim (has_newline (w ++ got)) as (λ v. has_newline (w ++ got) ≡ v → EndsLines (s.input ++ first_line (w ++ got)) ⊎ (w' ++ left₂ ≡ [])) [
+      | true ↦ λ there. inl (λ more. ap lines_of (append_assoc s.input (first_line (w ++ got)) more) ∙ ends (first_line (w ++ got) ++ more) ∙ ap (λ l. lines_of s.input ++ l) (whole_line (w ++ got) more there)
+          ∙ ap (λ l. lines_of s.input ++ (l ++ lines_of more)) (sym (line_alone (w ++ got) some)) ∙ sym (append_assoc (lines_of s.input) (lines_of (first_line (w ++ got))) (lines_of more)) ∙ ap (λ l. l ++ lines_of more) (sym (ends (first_line (w ++ got)))))
+      | false ↦ λ none. inr (λ i. (next ∙ behind_line_all (w ++ got) none) i ++ ended whole none i)
+    ] refl;
+  }
+  | inr nothing ↦ absurd (omega (arith, some, ap length (ap (λ l. w ++ l) (sym took) ∙ nothing), length-append w (got ++ left₂), length-append got left₂, length-append w got))
+]
+  where
+    behind_is : w ++ left₁ ≡ first_line (w ++ got) ++ (w' ++ left₂)
+    behind_is = ap (λ l. w ++ l) took ∙ sym (append_assoc w got left₂) ∙ ap (λ l. l ++ left₂) (sym (line_split (w ++ got))) ∙ append_assoc (first_line (w ++ got)) (behind_line (w ++ got)) left₂ ∙ ap (λ l. first_line (w ++ got) ++ (l ++ left₂)) (sym next)
+
+    ended : IsWhole (w ++ got) (left₂ ≡ []) → has_newline (w ++ got) ≡ false → left₂ ≡ []
+    ended (inl there) none = absurd (true≢false (sym there ∙ none))
+    ended (inr e) none = e
+
+-- one more reading
+pub readings_push : (lines : List (List ℕ)) (rs : List (Option LineView)) (l : List ℕ) (r : Option LineView) → AreReadings lines rs → IsLineReading l r → AreReadings (lines ++ l ∷ []) (rs ++ r ∷ [])
+readings_push [] [] l r h one = (one, tt)
+readings_push [] (x ∷ xs) l r h one = absurd h
+readings_push (x ∷ xs) [] l r h one = absurd h
+readings_push (x ∷ xs) (y ∷ ys) l r h one = (h.0, readings_push xs ys l r h.1 one)
+
+pub counts_push : (v : CountsView) (rs : List (Option LineView)) (r : Option LineView) → counts_after v (rs ++ r ∷ []) ≡ after_read r (counts_after v rs)
+counts_push v [] r = refl
+counts_push v (x ∷ xs) r = counts_push (after_read x v) xs r
+
+pub effects_push : (n : ℕ) (v : CountsView) (rs : List (Option LineView)) (r : Option LineView) → effects_from n v (rs ++ r ∷ []) ≡ effects_from n v rs ++ line_effects (n + length rs) r (counts_after v rs)
+effects_push n v [] r = append-nil (line_effects n r v) ∙ (let e : n ≡ n + 0 = omega arith in ap (λ k. line_effects k r v) e)
+effects_push n v (x ∷ xs) r =
+    let e : n + 1 + length xs ≡ n + suc (length xs) = omega arith in
+    ap (λ l. line_effects n x v ++ l) (effects_push (n + 1) (after_read x v) xs r ∙ ap (λ k. effects_from (n + 1) (after_read x v) xs ++ line_effects k r (counts_after (after_read x v) xs)) e)
+    ∙ sym (append_assoc (line_effects n x v) (effects_from (n + 1) (after_read x v) xs) (line_effects (n + suc (length xs)) r (counts_after (after_read x v) xs)))
+
+-- a line of at most 512 bytes that was read
+pub line_reading : (bs body : List ℕ) (r : Option LineView) → body ≡ body_of bs → nat_lt 512 (length (first_line bs)) ≡ false → IsReading body r → IsLineReading (first_line bs) r
+line_reading bs body (Some said) is short h = (within (length (first_line bs)) short, subst (λ l. IsTrackerLine l said) (is ∙ sym (body_first bs)) h)
+  where
+    within : (n : ℕ) → nat_lt 512 n ≡ false → n ≤ 512
+    within n e = elim (leb_tells n 512) [
+      | inl p ↦ p.1
+      | inr p ↦ absurd (true≢false (sym ((Decides-ltb 512 n).1 p.1) ∙ e))
+    ]
+line_reading bs body None is short h = inr (λ said k. h said (subst (λ l. IsTrackerLine l said) (body_first bs ∙ sym is) k))

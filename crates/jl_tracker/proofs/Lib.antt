@@ -1,0 +1,10 @@
+pub mod PartLemmas
+pub mod SpelledLemmas
+pub mod SaidLemmas
+pub mod TableLemmas
+pub mod RemovalLemmas
+pub mod PlayLemmas
+pub mod GoingLemmas
+pub mod HeldLemmas
+pub mod TrackLemmas
+pub mod CauseLemmas

@@ -1,0 +1,276 @@
+-- The tracker's turns: it goes on, or it ends.
+use Rattle.std.proofs.Common.{◌≡◌, ℕ, ◌+◌, ◌-◌, ◌^◌, ◌<◌, ◌≤◌, ◌⊎◌, inl, inr, List, [], ◌∷◌, ◌++◌, Bool, true, false, ◌||◌, cond, Option, Some, None, length, nat_lt, true≢false, sym, ◌∙◌, ap, subst, refl, arith, length-append}
+use Rattle.std.proofs.lemmas.List.{append-nil, append_assoc}
+use Rattle.jl_lines.specs.declared.reader.NextLine.{NextLine}
+use Rattle.jl_lines.specs.declared.reader.NextLine.TheVariants as next_line
+use Rattle.jl_lines.specs.Lines.{has_newline, first_line, behind_line, body_of, lines_of}
+use Rattle.jl_lines.specs.Steps.{ReaderView, waiting, is_long, Passes, Keeps, IsWhole, Answers, LeftIs, NextStep}
+use Rattle.jl_lines.proofs.StepLemmas.{of_or}
+use Rattle.jl_lines.proofs.FollowLemmas.{lines_first}
+use Rattle.std.proofs.lemmas.Bool.Decides.{Decides-ltb}
+use Rattle.jl_tracker.specs.declared.following.Tracked.{Tracked}
+use Rattle.jl_tracker.specs.declared.following.Tracked.TheVariants as tracked
+use Rattle.jl_tracker.specs.TrackerLines.{LineView}
+use Rattle.jl_tracker.specs.Counting.{CountsView, no_counts, left_of}
+use Rattle.jl_tracker.specs.Effects.{Effect, reports_bad, IsReading, IsLineReading, AreReadings, line_effects, after_read, effects_from, counts_after, end_effects}
+use Rattle.jl_tracker.specs.Plays.{Stage, Plays, Stops}
+use Rattle.jl_tracker.specs.Turns.{HasPaths, Handles, HandlesSome, Concludes}
+use Rattle.jl_tracker.specs.Tracking.{EndsLines, Seen, Going, Tracks, TracksAll, TracksFirst, TracksMuch, TracksSome}
+use Rattle.jl_tracker.proofs.PlayLemmas.{plays_trans, plays_stops, plays_stop, plays_map, stops_map}
+use Rattle.jl_tracker.proofs.GoingLemmas.{line_split, seen_line, readings_push, counts_push, effects_push, line_reading}
+use Rattle.jl_tracker.proofs.HeldLemmas.{read_paths}
+
+-- what was read of a line that was passed, and what it brought about
+record Turn (FT ET : Type 0) (me : List ℕ) (number : ℕ) (line : List ℕ) (old new : CountsView) (a b : Stage) : Type 0 where
+  read : Option LineView
+  reading : IsLineReading line read
+  counts_is : new ≡ after_read read old
+  paths : HasPaths old → HasPaths new
+  plays : Plays FT ET me (line_effects number read old) a b
+
+-- the tracker goes on with one more line
+go_line : (ST FT ET : Type 0) (me : List ℕ) (left behind behind' : List ℕ) (a b c : Stage) (reader reader' : ReaderView) (old new : CountsView) (line : List ℕ) → (going : Going ST FT ET me left behind a b reader old)
+    → (ST → Seen (going.lines ++ line ∷ []) left behind') → (ST → reader'.taken + length behind' ≡ length left + length (waiting reader')) → reader'.lines ≡ reader.lines + 1 → reader'.long ≡ false → reader'.limit ≡ reader.limit → Turn FT ET me (reader.lines + 1) line old new b c → Going ST FT ET me left behind' a c reader' new
+go_line ST FT ET me left behind behind' a b c reader reader' old new line going seen taken number short limit turn = record {
+  lines = going.lines ++ line ∷ [];
+  readings = going.readings ++ turn.read ∷ [];
+  read = readings_push going.lines going.readings line turn.read going.read turn.reading;
+  seen = seen;
+  taken_is = taken;
+  number_is = omega (arith, number, going.number_is, length-append going.readings (turn.read ∷ []));
+  short = short;
+  limit_is = limit ∙ going.limit_is;
+  counts_is = turn.counts_is ∙ ap (after_read turn.read) going.counts_is ∙ sym (counts_push no_counts going.readings turn.read);
+  paths = turn.paths going.paths;
+  plays = subst (λ es. Plays FT ET me es a c) (sym (effects_push 1 no_counts going.readings turn.read))
+      (plays_trans FT ET me (effects_from 1 no_counts going.readings) (line_effects (1 + length going.readings) turn.read (counts_after no_counts going.readings)) a b c going.plays
+      (subst (λ v. Plays FT ET me (line_effects (1 + length going.readings) turn.read v) b c) going.counts_is (subst (λ n. Plays FT ET me (line_effects n turn.read old) b c) number_is turn.plays)));
+}
+  where
+    number_is : reader.lines + 1 ≡ 1 + length going.readings
+    number_is = omega (arith, going.number_is)
+
+-- the same where the end is known of by what is told
+whole_told : (bytes left : List ℕ) (E : Type 0) → E → IsWhole bytes (E → left ≡ []) → IsWhole bytes (left ≡ [])
+whole_told bytes left E t (inl e) = inl e
+whole_told bytes left E t (inr e) = inr (e t)
+
+-- a limit that is passed
+long_over : (m n : ℕ) → nat_lt m n ≡ true → m < n
+long_over m n e = (Decides-ltb m n).0 e
+
+-- bytes of which the first line is not empty
+some_bytes : (bs : List ℕ) → 0 < length (first_line bs) → 0 < length bs
+some_bytes [] lt = lt
+some_bytes (b ∷ bs) lt = omega arith
+
+-- a line that is too long, where that was not known before
+over_of : (reader : ReaderView) (bytes : List ℕ) → reader.long ≡ false → reader.limit ≡ 512 → is_long reader bytes ≡ true → 512 < length (first_line bytes)
+over_of reader bytes short limit long = subst (λ m. m < length (first_line bytes)) limit (long_over reader.limit (length (first_line bytes)) (ap (λ v. v || nat_lt reader.limit (length (first_line bytes))) (sym short) ∙ long))
+
+-- how many bytes were taken
+taken_on : (left got left₁ left₂ w w' : List ℕ) (taken taken' : ℕ) → taken' ≡ taken + length got → left₁ ≡ got ++ left₂ → taken + length (w ++ left₁) ≡ length left + length w → taken' + length (w' ++ left₂) ≡ length left + length w'
+taken_on left got left₁ left₂ w w' taken taken' took is so_far =
+    let all : length left₁ ≡ length got + length left₂ = ap length is ∙ length-append got left₂ in
+    omega (arith, took, all, so_far, length-append w left₁, length-append w' left₂)
+
+-- all bytes were taken that may be, and one more
+taken_much : (left got left₁ left₂ w : List ℕ) (byte taken taken' : ℕ) → taken' ≡ taken + length got → taken' ≡ 2 ^ 40 → left₁ ≡ got ++ byte ∷ left₂ → taken + length (w ++ left₁) ≡ length left + length w → 2 ^ 40 + (1 + length left₂) ≡ length left
+taken_much left got left₁ left₂ w byte taken taken' took full is so_far =
+    let all : length left₁ ≡ length got + length (byte ∷ left₂) = ap length is ∙ length-append got (byte ∷ left₂) in
+    omega (arith, took, full, all, so_far, length-append w left₁)
+
+-- the tracker goes on behind an answer
+pub goes_on : (ST ST' FT FT' ET ET' : Type 0) (me me' : List ℕ) (left left₁ left₂ : List ℕ) (a b c : Stage) (reader reader' : ReaderView) (old new : CountsView) (answer : NextLine) → (ST → ST') → (FT → FT') → (ET → ET') → me' ≡ me
+    → Going ST FT ET me left (waiting reader ++ left₁) a b reader old → NextStep ST' reader reader' left₁ left₂ answer → Handles FT' ET' me' answer old new b c → Going ST FT ET me left (waiting reader' ++ left₂) a c reader' new
+goes_on ST ST' FT FT' ET ET' me me' left left₁ left₂ a b c reader reader' old new answer st ft et same going step = go answer step.left_is step.answer_is
+  where
+    bytes : List ℕ
+    bytes = waiting reader ++ step.got
+
+    go : (answer : NextLine) → (ST' → LeftIs answer step.got left₁ left₂) → Answers reader reader' (waiting reader ++ step.got) (ST' → left₂ ≡ []) answer → Handles FT' ET' me' answer old new b c → Going ST FT ET me left (waiting reader' ++ left₂) a c reader' new
+    go (next_line.Line number body) took h turn =
+        let short : nat_lt 512 (length (first_line (waiting reader ++ step.got))) ≡ false = subst (λ m. nat_lt m (length (first_line (waiting reader ++ step.got))) ≡ false) going.limit_is (of_or reader.long _ h.1).1 in
+        go_line ST FT ET me left (waiting reader ++ left₁) (waiting reader' ++ left₂) a b c reader reader' old new (first_line (waiting reader ++ step.got)) going
+        (λ t. seen_line going.lines left (waiting reader) step.got left₁ left₂ (waiting reader') (going.seen t) (took (st t)) h.2 (whole_told (waiting reader ++ step.got) left₂ ST' (st t) h.4) h.0.waiting_is)
+        (λ t. taken_on left step.got left₁ left₂ (waiting reader) (waiting reader') reader.taken reader'.taken step.taken_is (took (st t)) (going.taken_is t))
+        (h.0.lines_is ∙ h.0.number_is) h.0.long_is step.limit_is
+        (record {
+          read = turn.read;
+          reading = line_reading (waiting reader ++ step.got) body turn.read h.3 short turn.reading;
+          counts_is = turn.counts_is;
+          paths = λ p. subst HasPaths (sym turn.counts_is) (read_paths body turn.read old turn.reading p);
+          plays = subst (λ n. Plays FT ET me (line_effects n turn.read old) b c) h.0.number_is (plays_map FT FT' ET ET' me me' (line_effects number turn.read old) b c ft et same turn.plays);
+        })
+    go (next_line.TooLong number) took h turn =
+        let over = over_of reader (waiting reader ++ step.got) going.short going.limit_is h.1 in
+        go_line ST FT ET me left (waiting reader ++ left₁) (waiting reader' ++ left₂) a b c reader reader' old new (first_line (waiting reader ++ step.got)) going
+        (λ t. seen_line going.lines left (waiting reader) step.got left₁ left₂ (waiting reader') (going.seen t) (took (st t)) (some_bytes (waiting reader ++ step.got) (omega (arith, over))) (whole_told (waiting reader ++ step.got) left₂ ST' (st t) h.2) h.0.waiting_is)
+        (λ t. taken_on left step.got left₁ left₂ (waiting reader) (waiting reader') reader.taken reader'.taken step.taken_is (took (st t)) (going.taken_is t))
+        (h.0.lines_is ∙ h.0.number_is) h.0.long_is step.limit_is
+        (record {
+          read = None;
+          reading = inl over;
+          counts_is = turn.0;
+          paths = λ p. subst HasPaths (sym turn.0) p;
+          plays = subst (λ n. Plays FT ET me (reports_bad n ∷ []) b c) h.0.number_is (plays_map FT FT' ET ET' me me' (reports_bad number ∷ []) b c ft et same turn.1);
+        })
+    go next_line.End took h turn = absurd turn
+    go next_line.TooMuch took h turn = absurd turn
+    go next_line.ReadFault took h turn = absurd turn
+    go next_line.NoMemory took h turn = absurd turn
+
+-- the bytes behind the lines
+seen_rest : (lines : List (List ℕ)) (left w got left₁ left₂ : List ℕ) → Seen lines left (w ++ left₁) → left₁ ≡ got ++ left₂ → Seen lines left ((w ++ got) ++ left₂)
+seen_rest lines left w got left₁ left₂ s e = subst (λ l. Seen lines left l) (ap (λ l. w ++ l) e ∙ sym (append_assoc w got left₂)) s
+
+-- nothing stands behind the lines
+seen_all : (lines : List (List ℕ)) (left w got left₁ left₂ : List ℕ) → Seen lines left (w ++ left₁) → left₁ ≡ got ++ left₂ → w ++ got ≡ [] → left₂ ≡ [] → (lines ≡ lines_of left) × (left₂ ≡ [])
+seen_all lines left w got left₁ left₂ s e none end =
+    let r = seen_rest lines left w got left₁ left₂ s e in
+    let all : left ≡ r.input = r.left_is ∙ (λ i. r.input ++ (none i ++ end i)) ∙ append-nil r.input in
+    (r.lines_is ∙ ap lines_of (sym all), end)
+
+-- the effects of a line that was cut off, behind those of the lines before
+stops_line : (FT ET : Type 0) (me : List ℕ) (readings : List (Option LineView)) (r : Option LineView) (old : CountsView) (lines : ℕ) (a b c : Stage) → lines ≡ length readings → old ≡ counts_after no_counts readings → Plays FT ET me (effects_from 1 no_counts readings) a b → Stops FT ET me (line_effects (lines + 1) r old) b c
+    → Stops FT ET me (effects_from 1 no_counts (readings ++ r ∷ [])) a c
+stops_line FT ET me readings r old lines a b c number counts plays stops =
+    let n : lines + 1 ≡ 1 + length readings = omega (arith, number) in
+    subst (λ es. Stops FT ET me es a c) (sym (effects_push 1 no_counts readings r))
+    (plays_stops FT ET me (effects_from 1 no_counts readings) (line_effects (1 + length readings) r (counts_after no_counts readings)) a b c plays
+    (subst (λ v. Stops FT ET me (line_effects (1 + length readings) r v) b c) counts (subst (λ k. Stops FT ET me (line_effects k r old) b c) n stops)))
+
+-- the tracker ends
+pub concludes : (ST ST' FT FT' ET ET' : Type 0) (me me' : List ℕ) (left left₁ left₂ : List ℕ) (a b c : Stage) (reader reader' : ReaderView) (old : CountsView) (answer : NextLine) (end : Tracked) → (ST → ST') → (FT → FT') → (ET → ET') → me' ≡ me
+    → Going ST FT ET me left (waiting reader ++ left₁) a b reader old → NextStep ST' reader reader' left₁ left₂ answer → Concludes FT' ET' me' end answer old b c → Tracks ST FT ET me left left₂ a c end
+concludes ST ST' FT FT' ET ET' me me' left left₁ left₂ a b c reader reader' old answer end st ft et same going step = go end
+  where
+    w : List ℕ
+    w = waiting reader
+
+    at_end : (answer : NextLine) → answer ≡ next_line.End → (ST' → LeftIs answer step.got left₁ left₂) → Answers reader reader' (waiting reader ++ step.got) (ST' → left₂ ≡ []) answer → ST → (going.lines ≡ lines_of left) × (left₂ ≡ [])
+    at_end answer e took h t =
+        let took' = subst (λ x. ST' → LeftIs x step.got left₁ left₂) e took in
+        let h' = subst (λ x. Answers reader reader' (waiting reader ++ step.got) (ST' → left₂ ≡ []) x) e h in
+        seen_all going.lines left (waiting reader) step.got left₁ left₂ (going.seen t) (took' (st t)) h'.2 (h'.3 (st t))
+
+    cut : (answer : NextLine) → (ST' → LeftIs answer step.got left₁ left₂) → Answers reader reader' (waiting reader ++ step.got) (ST' → left₂ ≡ []) answer → HandlesSome FT' ET' me' answer old b c → TracksSome ST FT ET me left left₂ a c
+    cut (next_line.Line number body) took h turn =
+        let short : nat_lt 512 (length (first_line (waiting reader ++ step.got))) ≡ false = subst (λ m. nat_lt m (length (first_line (waiting reader ++ step.got))) ≡ false) going.limit_is (of_or reader.long _ h.1).1 in record {
+          lines = going.lines ++ first_line (waiting reader ++ step.got) ∷ [];
+          readings = going.readings ++ turn.read ∷ [];
+          rest = waiting reader';
+          read = readings_push going.lines going.readings (first_line (waiting reader ++ step.got)) turn.read going.read (line_reading (waiting reader ++ step.got) body turn.read h.3 short turn.reading);
+          seen = λ t. seen_line going.lines left (waiting reader) step.got left₁ left₂ (waiting reader') (going.seen t) (took (st t)) h.2 (whole_told (waiting reader ++ step.got) left₂ ST' (st t) h.4) h.0.waiting_is;
+          stops = inl (stops_line FT ET me going.readings turn.read old reader.lines a b c going.number_is going.counts_is going.plays
+              (subst (λ n. Stops FT ET me (line_effects n turn.read old) b c) h.0.number_is (stops_map FT FT' ET ET' me me' (line_effects number turn.read old) b c ft et same turn.stops)));
+        }
+    cut (next_line.TooLong number) took h turn =
+        let over = over_of reader (waiting reader ++ step.got) going.short going.limit_is h.1 in record {
+          lines = going.lines ++ first_line (waiting reader ++ step.got) ∷ [];
+          readings = going.readings ++ None ∷ [];
+          rest = waiting reader';
+          read = readings_push going.lines going.readings (first_line (waiting reader ++ step.got)) None going.read (inl over);
+          seen = λ t. seen_line going.lines left (waiting reader) step.got left₁ left₂ (waiting reader') (going.seen t) (took (st t)) (some_bytes (waiting reader ++ step.got) (omega (arith, over))) (whole_told (waiting reader ++ step.got) left₂ ST' (st t) h.2) h.0.waiting_is;
+          stops = inl (stops_line FT ET me going.readings None old reader.lines a b c going.number_is going.counts_is going.plays
+              (subst (λ n. Stops FT ET me (reports_bad n ∷ []) b c) h.0.number_is (stops_map FT FT' ET ET' me me' (reports_bad number ∷ []) b c ft et same turn)));
+        }
+    cut next_line.End took h turn = record {
+      lines = going.lines;
+      readings = going.readings;
+      rest = waiting reader ++ step.got;
+      read = going.read;
+      seen = λ t. seen_rest going.lines left (waiting reader) step.got left₁ left₂ (going.seen t) (took (st t));
+      stops = inr (
+        λ t. at_end next_line.End refl took h t,
+        plays_stops FT ET me (effects_from 1 no_counts going.readings) (end_effects (counts_after no_counts going.readings)) a b c going.plays
+            (subst (λ v. Stops FT ET me (end_effects v) b c) going.counts_is (stops_map FT FT' ET ET' me me' (end_effects old) b c ft et same turn)),
+      );
+    }
+    cut next_line.TooMuch took h turn = absurd turn
+    cut next_line.ReadFault took h turn = absurd turn
+    cut next_line.NoMemory took h turn = record {
+      lines = going.lines;
+      readings = going.readings;
+      rest = waiting reader ++ step.got;
+      read = going.read;
+      seen = λ t. seen_rest going.lines left (waiting reader) step.got left₁ left₂ (going.seen t) (took (st t));
+      stops = inl (plays_stop FT ET me (effects_from 1 no_counts going.readings) a c (subst (λ x. Plays FT ET me (effects_from 1 no_counts going.readings) a x) (sym turn) going.plays));
+    }
+
+    go : (end : Tracked) → Concludes FT' ET' me' end answer old b c → Tracks ST FT ET me left left₂ a c end
+    go tracked.Ended turn = record {
+      lines = going.lines;
+      readings = going.readings;
+      read = going.read;
+      seen = λ t. at_end answer turn.0 step.left_is step.answer_is t;
+      plays = plays_trans FT ET me (effects_from 1 no_counts going.readings) (end_effects (counts_after no_counts going.readings)) a b c going.plays
+          (subst (λ v. Plays FT ET me (end_effects v) b c) going.counts_is (plays_map FT FT' ET ET' me me' (end_effects old) b c ft et same turn.1));
+    }
+    go tracked.ReadFault turn =
+        let took = subst (λ x. ST' → LeftIs x step.got left₁ left₂) turn.0 step.left_is in
+        let h = subst (λ x. Answers reader reader' (waiting reader ++ step.got) (ST' → left₂ ≡ []) x) turn.0 step.answer_is in record {
+          lines = going.lines;
+          readings = going.readings;
+          rest = waiting reader ++ step.got;
+          read = going.read;
+          none = h.1;
+          seen = λ t. seen_rest going.lines left (waiting reader) step.got left₁ left₂ (going.seen t) (took (st t));
+          plays = subst (λ x. Plays FT ET me (effects_from 1 no_counts going.readings) a x) (sym turn.1) going.plays;
+        }
+    go tracked.TooMuch turn =
+        let took = subst (λ x. ST' → LeftIs x step.got left₁ left₂) turn.0 step.left_is in
+        let h = subst (λ x. Answers reader reader' (waiting reader ++ step.got) (ST' → left₂ ≡ []) x) turn.0 step.answer_is in record {
+          lines = going.lines;
+          readings = going.readings;
+          rest = waiting reader ++ step.got;
+          read = going.read;
+          none = h.1;
+          seen = λ t. ((took (st t)).0, seen_rest going.lines left (waiting reader) step.got left₁ ((took (st t)).0 ∷ left₂) (going.seen t) (took (st t)).1);
+          much = λ t. taken_much left step.got left₁ left₂ (waiting reader) (took (st t)).0 reader.taken reader'.taken step.taken_is h.2 (took (st t)).1 (going.taken_is t);
+          plays = subst (λ x. Plays FT ET me (effects_from 1 no_counts going.readings) a x) (sym turn.1) going.plays;
+        }
+    go tracked.NoMemory turn = cut answer step.left_is step.answer_is turn
+
+-- nothing was read yet
+pub going_start : (ST FT ET : Type 0) (me : List ℕ) (left : List ℕ) (a : Stage) (reader : ReaderView) (counts : CountsView) → reader ≡ record { limit = 512; taken = 0; lines = 0; long = false; front = []; rest = [] } → counts ≡ no_counts → Going ST FT ET me left (waiting reader ++ left) a a reader counts
+going_start ST FT ET me left a reader counts reader_is counts_is = record {
+  lines = [];
+  readings = [];
+  read = tt;
+  seen = λ t. record { input = []; left_is = sym (ap (λ v. waiting v ++ left) reader_is); lines_is = refl; ends = inl (λ more. refl) };
+  taken_is = λ t. omega (arith, ap (λ v. v.taken) reader_is, length-append (waiting reader) left);
+  number_is = ap (λ v. v.lines) reader_is;
+  short = ap (λ v. v.long) reader_is;
+  limit_is = ap (λ v. v.limit) reader_is;
+  counts_is = counts_is;
+  paths = subst HasPaths (sym counts_is) record { files = tt; semlocks = tt; folders = tt };
+  plays = refl;
+}
+
+-- a first line is not empty
+first_some : (bs : List ℕ) → 0 < length bs → 0 < length (first_line bs)
+first_some [] lt = lt
+first_some (b ∷ bs) lt = omega arith
+
+-- a line that is passed leaves less to do
+less_left : (bs w got w' : List ℕ) (taken taken' : ℕ) → bs ≡ w ++ got → 0 < length bs → w' ≡ behind_line bs → taken' ≡ taken + length got → taken' ≤ 2 ^ 40 → (2 ^ 40 - taken') + length w' < (2 ^ 40 - taken) + length w
+less_left bs w got w' taken taken' is some next took most =
+    let parts : length (first_line bs) + length (behind_line bs) ≡ length bs = sym (length-append (first_line bs) (behind_line bs)) ∙ ap length (line_split bs) in
+    let all : length bs ≡ length w + length got = ap length is ∙ length-append w got in
+    let one : 0 < length (first_line bs) = first_some bs some in
+    let same : length w' ≡ length (behind_line bs) = ap length next in
+    omega (arith, parts, all, one, same, took, most)
+
+pub smaller : (ST FT ET : Type 0) (me : List ℕ) (left left' : List ℕ) (reader reader' : ReaderView) (answer : NextLine) (old new : CountsView) (a b : Stage) → reader.long ≡ false → reader.limit ≡ 512 → NextStep ST reader reader' left left' answer → Handles FT ET me answer old new a b
+    → (2 ^ 40 - reader'.taken) + length (waiting reader') < (2 ^ 40 - reader.taken) + length (waiting reader)
+smaller ST FT ET me left left' reader reader' answer old new a b short limit step h = go answer step.answer_is h
+  where
+    go : (answer : NextLine) → Answers reader reader' (waiting reader ++ step.got) (ST → left' ≡ []) answer → Handles FT ET me answer old new a b → (2 ^ 40 - reader'.taken) + length (waiting reader') < (2 ^ 40 - reader.taken) + length (waiting reader)
+    go (next_line.Line number body) h turn = less_left (waiting reader ++ step.got) (waiting reader) step.got (waiting reader') reader.taken reader'.taken refl h.2 h.0.waiting_is step.taken_is step.most
+    go (next_line.TooLong number) h turn =
+        less_left (waiting reader ++ step.got) (waiting reader) step.got (waiting reader') reader.taken reader'.taken refl (some_bytes (waiting reader ++ step.got) (omega (arith, over_of reader (waiting reader ++ step.got) short limit h.1))) h.0.waiting_is step.taken_is step.most
+    go next_line.End h turn = absurd turn
+    go next_line.TooMuch h turn = absurd turn
+    go next_line.ReadFault h turn = absurd turn
+    go next_line.NoMemory h turn = absurd turn

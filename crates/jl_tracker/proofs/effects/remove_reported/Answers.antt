@@ -1,0 +1,19 @@
+use Rattle.std.proofs.Common.{◌≡◌, ◌∙◌, inl, inr, subst, sym, refl}
+use Rattle.jl_tracker.specs.Effects.{removes}
+use Rattle.jl_tracker.specs.declared.line.Kind.TheVariants as kind
+use Rattle.jl_tracker.specs.declared.removing.Tried.{Tried}
+use Rattle.jl_tracker.specs.declared.removing.Tried.TheVariants as tried
+use Rattle.jl_tracker.proofs.PlayLemmas.{gone_plays, kept_ends, cut_stops}
+use Rattle.jl_tracker.proofs.effects.remove_reported.Goals as goal
+
+apart : tried.Gone ≡ tried.Kept → ⊥
+apart e = cc
+
+pub returns-in-Gone-clause-plays : goal.returns-in-Gone-clause-plays
+returns-in-Gone-clause-plays g c = gone_plays _ _ _ c.args.kind c.args.name.now _ _ _ _ _ _ c.in-Gone.ensures.tries (λ e. apart (c.in-Gone.ensures.semlock e))
+
+pub returns-in-Kept-clause-plays : goal.returns-in-Kept-clause-plays
+returns-in-Kept-clause-plays g c = kept_ends _ _ _ (removes c.args.kind c.args.name.now) g.E.Sink.written g.E.Sink.faults c.args.err.now c.say_kept.new.err _ _ _ _ c.say_kept.result c.say_kept.ensures.wrote c.in-Kept.ensures.tries (λ t. inr (c.in-Kept.ensures.tries t))
+
+pub returns-in-NoMemory-clause-plays : goal.returns-in-NoMemory-clause-plays
+returns-in-NoMemory-clause-plays g c = cut_stops _ _ _ (removes c.args.kind c.args.name.now) _ _ _ _ _ _ (λ t. inl (c.in-NoMemory.ensures.tries t))

@@ -1,0 +1,13 @@
+pub mod Causes
+pub mod Counting
+pub mod Effects
+pub mod Entries
+pub mod Parts
+pub mod PathTexts
+pub mod Plays
+pub mod Removing
+pub mod TrackerLines
+pub mod Tracking
+pub mod Tries
+pub mod Turns
+pub mod Views
