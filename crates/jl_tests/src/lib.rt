@@ -2,12 +2,8 @@
 #![tactic(auto)]
 
 #[cfg(test)]
-mod cache;
-#[cfg(test)]
 mod calls;
 #[cfg(test)]
 mod folders;
 #[cfg(test)]
 mod stage;
-#[cfg(test)]
-mod trees;

@@ -1,11 +1,8 @@
 // A run over a folder, streams and a host in memory.
-ghost use Rattle.std.specs.Prelude.{◌≡◌, ◌≤◌, ◌^◌, ◌∷◌, [], IfOk};
+ghost use Rattle.std.specs.Prelude.{◌≡◌, ◌∷◌, [], IfOk};
 
 use jl_cmd::run;
-use jl_folder::{
-    Appended, Bytes, Created, Folder, MemFolder, Move, OtherMoves, Path, Stop, Token, Tree,
-    are_foreign,
-};
+use jl_folder::{Appended, Bytes, Created, Folder, MemFolder, Path, Token, Tree};
 use jl_lang::Lang;
 use jl_streams::{Host, MemHost, MemSink, MemSource, Sink};
 use std::alloc::{AllocError, Global};
@@ -18,13 +15,6 @@ pub struct Ran {
     pub output: String,
     pub errors: String,
     pub moves: u64,
-}
-
-/// What a run left: its answer and texts, and the folder.
-#[derive(Drop)]
-pub struct Left {
-    pub ran: Ran,
-    pub folder: MemFolder,
 }
 
 /// A folder as another run left it, the calls of it that fail, and an output.
@@ -56,8 +46,8 @@ fn empty_folder(alloc: Global) -> Result<MemFolder, Fail> {
     )?)
 }
 
-/// A folder with the module file `m.def`.
-pub fn folder_with(alloc: Global, module: &str) -> Result<MemFolder, Fail> {
+// A folder with the module file `m.def`.
+fn folder_with(alloc: Global, module: &str) -> Result<MemFolder, Fail> {
     let path = Path::read(alloc, "m.def")?;
     let mut folder = empty_folder(alloc)?;
     let _wrote = write(&mut folder, &path, module);
@@ -153,88 +143,4 @@ pub fn run_on(alloc: Global, stage: Stage, words: &[&str]) -> Result<Ran, Fail> 
         &mut host,
     );
     told(alloc, status, folder.moves(), out.written(), err.written())
-}
-
-// One run over this folder, which has its token, and its host.
-fn held(alloc: Global, folder: MemFolder, host: MemHost, words: &[&str]) -> Result<Left, Fail>
-    requires { ⟦<MemHost as Host>⟧.token host ≡ ⟦<MemFolder as Folder>⟧.token folder }
-{
-    let mut folder = folder;
-    let mut host = host;
-    let words = words_of(alloc, words)?;
-    let mut out = MemSink::new(alloc, 1000, Vec::new(alloc))?;
-    let mut err = MemSink::new(alloc, 1000, Vec::new(alloc))?;
-    let status = play(
-        alloc,
-        words.as_slice(),
-        &mut folder,
-        &mut out,
-        &mut err,
-        &mut host,
-    );
-    let ran = told(alloc, status, folder.moves(), out.written(), err.written())?;
-    Ok(Left { ran, folder })
-}
-
-/// Runs these words as the run of a token, at a moment.
-pub fn run_next(
-    alloc: Global,
-    folder: MemFolder,
-    token: &str,
-    moment: u64,
-    stop: Option<Stop>,
-    words: &[&str],
-) -> Result<Left, Fail>
-    requires { moment ≤ 2 ^ 62 }
-{
-    let token = Token::read(alloc, token)?;
-    let host = MemHost::new(vec![in alloc; moment]?, 4, token.copy()?);
-    let folder = folder.next_run(token, Vec::new(alloc), Vec::new(alloc), stop)?;
-    held(alloc, folder, host, words)
-}
-
-/// Runs these words as the run of token `a`, at the moment 1,000,000, while others make these moves.
-pub fn run_beside(
-    alloc: Global,
-    folder: MemFolder,
-    others: Vec<OtherMoves>,
-    words: &[&str],
-) -> Result<Left, Fail> {
-    let token = Token::read(alloc, "a")?;
-    if !are_foreign(&token, others.as_slice()) {
-        return Err(Fail::from("a move of its own"));
-    }
-    let host = MemHost::new(vec![in alloc; 1_000_000u64]?, 4, token.copy()?);
-    let folder = folder.next_run(token, others, Vec::new(alloc), None)?;
-    held(alloc, folder, host, words)
-}
-
-/// The moves of the run of token `b` before a call.
-pub fn moves_before(alloc: Global, call: u64, changes: Vec<Move>) -> Result<OtherMoves, Fail> {
-    let token = Token::read(alloc, "b")?;
-    let mut moves = Vec::new(alloc);
-    for change in changes {
-        moves.push((token.copy()?, change))?;
-    }
-    Ok((call, moves))
-}
-
-/// The folder with another text of the module, which a run of token `w` wrote.
-pub fn with_module(alloc: Global, folder: MemFolder, module: &str) -> Result<MemFolder, Fail> {
-    let path = Path::read(alloc, "m.def")?;
-    let token = Token::read(alloc, "w")?;
-    let mut folder = folder.next_run(token, Vec::new(alloc), Vec::new(alloc), None)?;
-    let _removed = folder.remove(&path);
-    let _wrote = write(&mut folder, &path, module);
-    Ok(folder)
-}
-
-/// Whether the path names a file of these bytes.
-pub fn holds(alloc: Global, folder: &MemFolder, path: &str, text: &str) -> Result<bool, Fail> {
-    let path = Path::read(alloc, path)?;
-    Ok(
-        folder
-            .bytes_at(&path)
-            .is_some_and(|bytes| bytes == text.as_bytes()),
-    )
 }
