@@ -85,6 +85,13 @@ impl LineReader {
         }
     }
 
+    /// The number of the line that it reads next.
+    pub fn number(&self) -> u64
+        ensures { result ≡ self.now.lines + 1 }
+    {
+        self.lines + 1
+    }
+
     // A reader that took so many bytes before, all in lines that it passed.
     #[cfg(test)]
     pub fn after(alloc: Global, limit: u64, taken: u64) -> LineReader

@@ -141,9 +141,9 @@ stops_line FT ET me readings r old lines a b c number counts plays stops =
     (subst (λ v. Stops FT ET me (line_effects (1 + length readings) r v) b c) counts (subst (λ k. Stops FT ET me (line_effects k r old) b c) n stops)))
 
 -- the tracker ends
-pub concludes : (ST ST' FT FT' ET ET' : Type 0) (me me' : List ℕ) (left left₁ left₂ : List ℕ) (a b c : Stage) (reader reader' : ReaderView) (old : CountsView) (answer : NextLine) (end : Tracked) → (ST → ST') → (FT → FT') → (ET → ET') → me' ≡ me
-    → Going ST FT ET me left (waiting reader ++ left₁) a b reader old → NextStep ST' reader reader' left₁ left₂ answer → Concludes FT' ET' me' end answer old b c → Tracks ST FT ET me left left₂ a c end
-concludes ST ST' FT FT' ET ET' me me' left left₁ left₂ a b c reader reader' old answer end st ft et same going step = go end
+pub concludes : (ST ST' FT FT' ET ET' : Type 0) (me me' : List ℕ) (left left₁ left₂ : List ℕ) (a b c : Stage) (reader reader' : ReaderView) (old : CountsView) (answer : NextLine) (number : ℕ) (end : Tracked) → number ≡ reader'.lines + 1 → (ST → ST') → (FT → FT') → (ET → ET') → me' ≡ me
+    → Going ST FT ET me left (waiting reader ++ left₁) a b reader old → NextStep ST' reader reader' left₁ left₂ answer → Concludes FT' ET' me' end number answer old b c → Tracks ST FT ET me left left₂ a c end
+concludes ST ST' FT FT' ET ET' me me' left left₁ left₂ a b c reader reader' old answer number end next st ft et same going step = go end
   where
     w : List ℕ
     w = waiting reader
@@ -153,6 +153,15 @@ concludes ST ST' FT FT' ET ET' me me' left left₁ left₂ a b c reader reader' 
         let took' = subst (λ x. ST' → LeftIs x step.got left₁ left₂) e took in
         let h' = subst (λ x. Answers reader reader' (waiting reader ++ step.got) (ST' → left₂ ≡ []) x) e h in
         seen_all going.lines left (waiting reader) step.got left₁ left₂ (going.seen t) (took' (st t)) h'.2 (h'.3 (st t))
+
+    -- no more was there than was taken
+    few : (answer : NextLine) → answer ≡ next_line.End → (ST' → LeftIs answer step.got left₁ left₂) → Answers reader reader' (waiting reader ++ step.got) (ST' → left₂ ≡ []) answer → ST → length left ≤ 2 ^ 40
+    few answer e took h t =
+        let took' = subst (λ x. ST' → LeftIs x step.got left₁ left₂) e took in
+        let h' = subst (λ x. Answers reader reader' (waiting reader ++ step.got) (ST' → left₂ ≡ []) x) e h in
+        let last : length left₂ ≡ 0 = ap length (h'.3 (st t)) in
+        let all : length left₁ ≡ length step.got + length left₂ = ap length (took' (st t)) ∙ length-append step.got left₂ in
+        omega (arith, going.taken_is t, last, all, step.taken_is, step.most, length-append (waiting reader) left₁)
 
     cut : (answer : NextLine) → (ST' → LeftIs answer step.got left₁ left₂) → Answers reader reader' (waiting reader ++ step.got) (ST' → left₂ ≡ []) answer → HandlesSome FT' ET' me' answer old b c → TracksSome ST FT ET me left left₂ a c
     cut (next_line.Line number body) took h turn =
@@ -198,12 +207,13 @@ concludes ST ST' FT FT' ET ET' me me' left left₁ left₂ a b c reader reader' 
       stops = inl (plays_stop FT ET me (effects_from 1 no_counts going.readings) a c (subst (λ x. Plays FT ET me (effects_from 1 no_counts going.readings) a x) (sym turn) going.plays));
     }
 
-    go : (end : Tracked) → Concludes FT' ET' me' end answer old b c → Tracks ST FT ET me left left₂ a c end
+    go : (end : Tracked) → Concludes FT' ET' me' end number answer old b c → Tracks ST FT ET me left left₂ a c end
     go tracked.Ended turn = record {
       lines = going.lines;
       readings = going.readings;
       read = going.read;
       seen = λ t. at_end answer turn.0 step.left_is step.answer_is t;
+      few = λ t. few answer turn.0 step.left_is step.answer_is t;
       plays = plays_trans FT ET me (effects_from 1 no_counts going.readings) (end_effects (counts_after no_counts going.readings)) a b c going.plays
           (subst (λ v. Plays FT ET me (end_effects v) b c) going.counts_is (plays_map FT FT' ET ET' me me' (end_effects old) b c ft et same turn.1));
     }
@@ -218,7 +228,7 @@ concludes ST ST' FT FT' ET ET' me me' left left₁ left₂ a b c reader reader' 
           seen = λ t. seen_rest going.lines left (waiting reader) step.got left₁ left₂ (going.seen t) (took (st t));
           plays = subst (λ x. Plays FT ET me (effects_from 1 no_counts going.readings) a x) (sym turn.1) going.plays;
         }
-    go tracked.TooMuch turn =
+    go (tracked.TooMuch line) turn =
         let took = subst (λ x. ST' → LeftIs x step.got left₁ left₂) turn.0 step.left_is in
         let h = subst (λ x. Answers reader reader' (waiting reader ++ step.got) (ST' → left₂ ≡ []) x) turn.0 step.answer_is in record {
           lines = going.lines;
@@ -228,6 +238,7 @@ concludes ST ST' FT FT' ET ET' me me' left left₁ left₂ a b c reader reader' 
           none = h.1;
           seen = λ t. ((took (st t)).0, seen_rest going.lines left (waiting reader) step.got left₁ ((took (st t)).0 ∷ left₂) (going.seen t) (took (st t)).1);
           much = λ t. taken_much left step.got left₁ left₂ (waiting reader) (took (st t)).0 reader.taken reader'.taken step.taken_is h.2 (took (st t)).1 (going.taken_is t);
+          number_is = omega (arith, turn.2, next, h.0.lines_is, going.number_is);
           plays = subst (λ x. Plays FT ET me (effects_from 1 no_counts going.readings) a x) (sym turn.1) going.plays;
         }
     go tracked.NoMemory turn = cut answer step.left_is step.answer_is turn

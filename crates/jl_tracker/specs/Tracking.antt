@@ -1,5 +1,5 @@
 -- What the tracker does from the first line to the last.
-use Rattle.std.specs.Prelude.{◌≡◌, ℕ, ◌+◌, ◌^◌, ◌⊎◌, List, [], ◌∷◌, ◌++◌, false, Option, length}
+use Rattle.std.specs.Prelude.{◌≡◌, ℕ, ◌+◌, ◌^◌, ◌≤◌, ◌⊎◌, List, [], ◌∷◌, ◌++◌, false, Option, length}
 use Rattle.jl_lines.specs.Lines.{has_newline, lines_of}
 use Rattle.jl_lines.specs.Steps.{ReaderView, waiting}
 use Rattle.jl_tracker.specs.declared.following.Tracked.{Tracked}
@@ -21,12 +21,13 @@ pub record Seen (lines : List (List ℕ)) (left behind : List ℕ) : Type 0 wher
   pub lines_is : lines ≡ lines_of input
   pub ends : EndsLines input ⊎ (behind ≡ [])
 
--- all lines of the source were read, and their effects came about, and then those of the end
+-- all lines of the source were read, and their effects came about, and then those of the end; no more bytes were there than the tracker takes at most, 2^40
 pub record TracksAll (ST FT ET : Type 0) (me : List ℕ) (left left' : List ℕ) (a b : Stage) : Type 0 where
   pub lines : List (List ℕ)
   pub readings : List (Option LineView)
   pub read : AreReadings lines readings
   pub seen : ST → (lines ≡ lines_of left) × (left' ≡ [])
+  pub few : ST → length left ≤ 2 ^ 40
   pub plays : Plays FT ET me (effects_from 1 no_counts readings ++ end_effects (counts_after no_counts readings)) a b
 
 -- the first lines of the source were read, all whose newline was taken, and their effects came about
@@ -39,8 +40,8 @@ pub record TracksFirst (ST FT ET : Type 0) (me : List ℕ) (left left' : List �
   pub seen : ST → Seen lines left (rest ++ left')
   pub plays : Plays FT ET me (effects_from 1 no_counts readings) a b
 
--- the same; as many bytes were taken as the tracker takes at most, 2^40, and then one more
-pub record TracksMuch (ST FT ET : Type 0) (me : List ℕ) (left left' : List ℕ) (a b : Stage) : Type 0 where
+-- the same; as many bytes were taken as the tracker takes at most, 2^40, and then one more; the number is that of the line behind those that were read
+pub record TracksMuch (ST FT ET : Type 0) (me : List ℕ) (left left' : List ℕ) (a b : Stage) (number : ℕ) : Type 0 where
   pub lines : List (List ℕ)
   pub readings : List (Option LineView)
   pub rest : List ℕ
@@ -48,6 +49,7 @@ pub record TracksMuch (ST FT ET : Type 0) (me : List ℕ) (left left' : List ℕ
   pub none : has_newline rest ≡ false
   pub seen : ST → (byte : ℕ) × Seen lines left (rest ++ byte ∷ left')
   pub much : ST → 2 ^ 40 + (1 + length left') ≡ length left
+  pub number_is : number ≡ 1 + length readings
   pub plays : Plays FT ET me (effects_from 1 no_counts readings) a b
 
 -- lines of the source were read; the first of their effects came about, with some of the end's only where these were all lines; and then there was no memory
@@ -63,7 +65,7 @@ pub record TracksSome (ST FT ET : Type 0) (me : List ℕ) (left left' : List ℕ
 abbrev pub Tracks : Type 0 → Type 0 → Type 0 → List ℕ → List ℕ → List ℕ → Stage → Stage → Tracked → Type 0
 Tracks ST FT ET me left left' a b tracked.Ended = TracksAll ST FT ET me left left' a b
 Tracks ST FT ET me left left' a b tracked.ReadFault = TracksFirst ST FT ET me left left' a b
-Tracks ST FT ET me left left' a b tracked.TooMuch = TracksMuch ST FT ET me left left' a b
+Tracks ST FT ET me left left' a b (tracked.TooMuch line) = TracksMuch ST FT ET me left left' a b line
 Tracks ST FT ET me left left' a b tracked.NoMemory = TracksSome ST FT ET me left left' a b
 
 -- the tracker goes on: the lines that it passed were read, counted and brought about

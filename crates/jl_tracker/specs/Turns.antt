@@ -69,9 +69,9 @@ HandlesSome FT ET me next_line.TooMuch old a b = ⊥
 HandlesSome FT ET me next_line.ReadFault old a b = ⊥
 HandlesSome FT ET me next_line.NoMemory old a b = b ≡ a
 
--- what follows on an answer, if the tracker ends
-abbrev pub Concludes : Type 0 → Type 0 → List ℕ → Tracked → NextLine → CountsView → Stage → Stage → Type 0
-Concludes FT ET me tracked.Ended answer old a b = (answer ≡ next_line.End) × Plays FT ET me (end_effects old) a b
-Concludes FT ET me tracked.ReadFault answer old a b = (answer ≡ next_line.ReadFault) × (b ≡ a)
-Concludes FT ET me tracked.TooMuch answer old a b = (answer ≡ next_line.TooMuch) × (b ≡ a)
-Concludes FT ET me tracked.NoMemory answer old a b = HandlesSome FT ET me answer old a b
+-- what follows on an answer, if the tracker ends; the number is that of the line that is read next
+abbrev pub Concludes : Type 0 → Type 0 → List ℕ → Tracked → ℕ → NextLine → CountsView → Stage → Stage → Type 0
+Concludes FT ET me tracked.Ended number answer old a b = (answer ≡ next_line.End) × Plays FT ET me (end_effects old) a b
+Concludes FT ET me tracked.ReadFault number answer old a b = (answer ≡ next_line.ReadFault) × (b ≡ a)
+Concludes FT ET me (tracked.TooMuch line) number answer old a b = (answer ≡ next_line.TooMuch) × (b ≡ a) × (line ≡ number)
+Concludes FT ET me tracked.NoMemory number answer old a b = HandlesSome FT ET me answer old a b

@@ -1,5 +1,5 @@
 // Brings about what the lines ask for.
-ghost use Rattle.std.specs.Prelude.{◌≡◌, ◌∷◌, [], true, false, MatchBool};
+ghost use Rattle.std.specs.Prelude.{◌≡◌, ◌≤◌, ◌∷◌, [], true, false, MatchBool};
 ghost use Rattle.jl_tracker.specs.TrackerLines.{view_of};
 ghost use Rattle.jl_tracker.specs.Counting.{after_line, answer_of};
 ghost use Rattle.jl_tracker.specs.Effects.{removes, removal_text, step_effects, effects_of};
@@ -20,6 +20,7 @@ use std::alloc::Global;
 fn say_kept<E: Sink>(alloc: Global, err: &mut E, kind: Kind, name: &str) -> bool
     ensures wrote { MatchBool result (E.told err.old → Wrote (removal_text kind name.now false) (E.written err.old) (E.written err.new) (E.faults err.old) (E.faults err.new)) (err.new ≡ err.old) }
     ensures told { E.told err.old → E.told err.new }
+    ensures later { E.faults err.old ≤ E.faults err.new }
 {
     match kind {
         Kind::File => say(alloc, err, "cannot remove", kind, name),
@@ -41,6 +42,9 @@ pub fn remove_reported<F: Folder, E: Sink>(
     ensures folder_told { F.told folder.old → F.told folder.new }
     ensures err_told { E.told err.old → E.told err.new }
     ensures token { F.token folder.new ≡ F.token folder.old }
+    ensures opens { F.opens folder.new ≡ F.opens folder.old }
+    ensures folder_later { F.faults folder.old ≤ F.faults folder.new }
+    ensures err_later { E.faults err.old ≤ E.faults err.new }
 {
     match remove(alloc, folder, kind, name) {
         Tried::Gone => true,
@@ -64,6 +68,9 @@ fn finish_step<F: Folder, E: Sink>(
     ensures folder_told { F.told folder.old → F.told folder.new }
     ensures err_told { E.told err.old → E.told err.new }
     ensures token { F.token folder.new ≡ F.token folder.old }
+    ensures opens { F.opens folder.new ≡ F.opens folder.old }
+    ensures folder_later { F.faults folder.old ≤ F.faults folder.new }
+    ensures err_later { E.faults err.old ≤ E.faults err.new }
 {
     match step {
         Step::Remove => remove_reported(alloc, folder, err, kind, name),
@@ -95,6 +102,9 @@ fn finish_line<F: Folder, E: Sink>(
     ensures folder_told { F.told folder.old → F.told folder.new }
     ensures err_told { E.told err.old → E.told err.new }
     ensures token { F.token folder.new ≡ F.token folder.old }
+    ensures opens { F.opens folder.new ≡ F.opens folder.old }
+    ensures folder_later { F.faults folder.old ≤ F.faults folder.new }
+    ensures err_later { E.faults err.old ≤ E.faults err.new }
 {
     match *line {
         Line::Register(_, _) => has_memory(step),
@@ -117,6 +127,9 @@ fn take_good<F: Folder, E: Sink>(
     ensures folder_told { F.told folder.old → F.told folder.new }
     ensures err_told { E.told err.old → E.told err.new }
     ensures token { F.token folder.new ≡ F.token folder.old }
+    ensures opens { F.opens folder.new ≡ F.opens folder.old }
+    ensures folder_later { F.faults folder.old ≤ F.faults folder.new }
+    ensures err_later { E.faults err.old ≤ E.faults err.new }
 {
     let step = counts.apply(alloc, line);
     finish_line(alloc, folder, err, line, step)
@@ -135,6 +148,9 @@ pub fn take_line<F: Folder, E: Sink>(
     ensures folder_told { F.told folder.old → F.told folder.new }
     ensures err_told { E.told err.old → E.told err.new }
     ensures token { F.token folder.new ≡ F.token folder.old }
+    ensures opens { F.opens folder.new ≡ F.opens folder.old }
+    ensures folder_later { F.faults folder.old ≤ F.faults folder.new }
+    ensures err_later { E.faults err.old ≤ E.faults err.new }
 {
     match read_line(bytes) {
         Ok(line) => take_good(alloc, counts, folder, err, &line),

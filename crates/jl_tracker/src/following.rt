@@ -22,7 +22,8 @@ pub enum Tracked {
     /// The input ended, and nothing is left.
     Ended,
     ReadFault,
-    TooMuch,
+    /// So much was taken as may be, and the input goes on; the number of the line that was being read.
+    TooMuch { line: u64 },
     NoMemory,
 }
 
@@ -41,6 +42,9 @@ fn finish_one<F: Folder, E: Sink>(
     ensures folder_told { F.told folder.old → F.told folder.new }
     ensures err_told { E.told err.old → E.told err.new }
     ensures token { F.token folder.new ≡ F.token folder.old }
+    ensures opens { F.opens folder.new ≡ F.opens folder.old }
+    ensures folder_later { F.faults folder.old ≤ F.faults folder.new }
+    ensures err_later { E.faults err.old ≤ E.faults err.new }
 {
     if !say(alloc, err, "leaked", leaked.kind, leaked.name.as_str()) {
         return false;
@@ -60,6 +64,9 @@ fn finish_all<F: Folder, E: Sink>(
     ensures folder_told { F.told folder.old → F.told folder.new }
     ensures err_told { E.told err.old → E.told err.new }
     ensures token { F.token folder.new ≡ F.token folder.old }
+    ensures opens { F.opens folder.new ≡ F.opens folder.old }
+    ensures folder_later { F.faults folder.old ≤ F.faults folder.new }
+    ensures err_later { E.faults err.old ≤ E.faults err.new }
 {
     'left: while let Some(leaked) = counts.finish() {
         if !finish_one(alloc, folder, err, &leaked) {
@@ -85,19 +92,23 @@ fn ended(there: bool) -> Option<Tracked>
     }
 }
 
-// Does what follows on an answer of the reader. Says how the tracker ends, if it does.
+// Does what follows on an answer of the reader, with the number of the line that it reads next. Says how the tracker ends, if it does.
 fn handle<F: Folder, E: Sink>(
     alloc: Global,
     counts: &mut Counts,
     folder: &mut F,
     err: &mut E,
     answer: NextLine,
+    number: u64,
 ) -> Option<Tracked>
     requires { AreRemovable (left_of counts.old) }
-    ensures cases { MatchOption result (Handles (F.told folder.old) (E.told err.old) (F.token folder.old) answer counts.old counts.new (stage (F.history folder.old) (F.faults folder.old) (E.written err.old) (E.faults err.old)) (stage (F.history folder.new) (F.faults folder.new) (E.written err.new) (E.faults err.new))) (λ end. Concludes (F.told folder.old) (E.told err.old) (F.token folder.old) end answer counts.old (stage (F.history folder.old) (F.faults folder.old) (E.written err.old) (E.faults err.old)) (stage (F.history folder.new) (F.faults folder.new) (E.written err.new) (E.faults err.new))) }
+    ensures cases { MatchOption result (Handles (F.told folder.old) (E.told err.old) (F.token folder.old) answer counts.old counts.new (stage (F.history folder.old) (F.faults folder.old) (E.written err.old) (E.faults err.old)) (stage (F.history folder.new) (F.faults folder.new) (E.written err.new) (E.faults err.new))) (λ end. Concludes (F.told folder.old) (E.told err.old) (F.token folder.old) end number answer counts.old (stage (F.history folder.old) (F.faults folder.old) (E.written err.old) (E.faults err.old)) (stage (F.history folder.new) (F.faults folder.new) (E.written err.new) (E.faults err.new))) }
     ensures folder_told { F.told folder.old → F.told folder.new }
     ensures err_told { E.told err.old → E.told err.new }
     ensures token { F.token folder.new ≡ F.token folder.old }
+    ensures opens { F.opens folder.new ≡ F.opens folder.old }
+    ensures folder_later { F.faults folder.old ≤ F.faults folder.new }
+    ensures err_later { E.faults err.old ≤ E.faults err.new }
 {
     match answer {
         NextLine::Line { no, bytes } => {
@@ -105,7 +116,7 @@ fn handle<F: Folder, E: Sink>(
         }
         NextLine::TooLong { no } => on_or_out(say_bad(alloc, err, no)),
         NextLine::End => ended(finish_all(alloc, counts, folder, err)),
-        NextLine::TooMuch => Some(Tracked::TooMuch),
+        NextLine::TooMuch => Some(Tracked::TooMuch { line: number }),
         NextLine::ReadFault => Some(Tracked::ReadFault),
         NextLine::NoMemory => Some(Tracked::NoMemory),
     }
@@ -124,12 +135,16 @@ pub fn track<S: Source, F: Folder, E: Sink>(
     ensures folder_told { F.told folder.old → F.told folder.new }
     ensures err_told { E.told err.old → E.told err.new }
     ensures token { F.token folder.new ≡ F.token folder.old }
+    ensures opens { F.opens folder.new ≡ F.opens folder.old }
+    ensures folder_later { F.faults folder.old ≤ F.faults folder.new }
+    ensures err_later { E.faults err.old ≤ E.faults err.new }
 {
     let mut reader = LineReader::new(alloc, LONGEST);
     let mut counts = Counts::new(alloc);
     'lines: loop {
         let answer = reader.next(alloc, source);
-        if let Some(end) = handle(alloc, &mut counts, folder, err, answer) {
+        let number = reader.number();
+        if let Some(end) = handle(alloc, &mut counts, folder, err, answer, number) {
             return end;
         }
     }

@@ -19,6 +19,7 @@ fn try_file<F: Folder>(folder: &mut F, path: &Path) -> Tried
     ensures tries { F.told folder.old → FileTry (F.token folder.old) path.now result (F.history folder.old) (F.history folder.new) (F.faults folder.old) (F.faults folder.new) }
     ensures told { F.told folder.old → F.told folder.new }
     ensures token { F.token folder.new ≡ F.token folder.old }
+    ensures opens { F.opens folder.new ≡ F.opens folder.old }
     ensures later { F.faults folder.old ≤ F.faults folder.new }
 {
     match folder.remove(path) {
@@ -33,6 +34,7 @@ fn try_folder<F: Folder>(folder: &mut F, path: &Path) -> Tried
     ensures tries { F.told folder.old → FolderTry (F.token folder.old) path.now result (F.history folder.old) (F.history folder.new) (F.faults folder.old) (F.faults folder.new) }
     ensures told { F.told folder.old → F.told folder.new }
     ensures token { F.token folder.new ≡ F.token folder.old }
+    ensures opens { F.opens folder.new ≡ F.opens folder.old }
     ensures later { F.faults folder.old ≤ F.faults folder.new }
 {
     match folder.remove_dir(path) {
@@ -49,6 +51,7 @@ fn try_there<F: Folder>(folder: &mut F, path: &Path) -> bool
     ensures tries { F.told folder.old → NameTry false (F.token folder.old) path.now result (F.history folder.old) (F.history folder.new) (F.faults folder.old) (F.faults folder.new) }
     ensures told { F.told folder.old → F.told folder.new }
     ensures token { F.token folder.new ≡ F.token folder.old }
+    ensures opens { F.opens folder.new ≡ F.opens folder.old }
     ensures later { F.faults folder.old ≤ F.faults folder.new }
 {
     match try_file(folder, path) {
@@ -64,6 +67,7 @@ fn try_part<F: Folder>(alloc: Global, folder: &mut F, path: &Path, part: &str) -
     ensures tries { F.told folder.old → NameTry false (F.token folder.old) (path.now ++ part.now ∷ []) result (F.history folder.old) (F.history folder.new) (F.faults folder.old) (F.faults folder.new) }
     ensures told { F.told folder.old → F.told folder.new }
     ensures token { F.token folder.new ≡ F.token folder.old }
+    ensures opens { F.opens folder.new ≡ F.opens folder.old }
     ensures later { F.faults folder.old ≤ F.faults folder.new }
 {
     match path.join(alloc, part) {
@@ -78,6 +82,7 @@ fn try_name<F: Folder>(alloc: Global, folder: &mut F, path: &Path, name: &Name) 
     ensures tries { F.told folder.old → NameTry name.now.folder (F.token folder.old) (path.now ++ name.now.part ∷ []) result (F.history folder.old) (F.history folder.new) (F.faults folder.old) (F.faults folder.new) }
     ensures told { F.told folder.old → F.told folder.new }
     ensures token { F.token folder.new ≡ F.token folder.old }
+    ensures opens { F.opens folder.new ≡ F.opens folder.old }
     ensures later { F.faults folder.old ≤ F.faults folder.new }
 {
     if name.folder {
@@ -92,6 +97,7 @@ fn try_names<F: Folder>(alloc: Global, folder: &mut F, path: &Path, names: &[Nam
     ensures tries { F.told folder.old → NamesTry (F.token folder.old) path.now names.now result (F.history folder.old) (F.history folder.new) (F.faults folder.old) (F.faults folder.new) }
     ensures told { F.told folder.old → F.told folder.new }
     ensures token { F.token folder.new ≡ F.token folder.old }
+    ensures opens { F.opens folder.new ≡ F.opens folder.old }
     ensures later { F.faults folder.old ≤ F.faults folder.new }
 {
     'names: for name in names {
@@ -108,6 +114,7 @@ fn try_listed<F: Folder>(alloc: Global, folder: &mut F, path: &Path, names: &[Na
     ensures tries { F.told folder.old → ListedTry (F.token folder.old) path.now names.now result (F.history folder.old) (F.history folder.new) (F.faults folder.old) (F.faults folder.new) }
     ensures told { F.told folder.old → F.told folder.new }
     ensures token { F.token folder.new ≡ F.token folder.old }
+    ensures opens { F.opens folder.new ≡ F.opens folder.old }
     ensures later { F.faults folder.old ≤ F.faults folder.new }
 {
     if !try_names(alloc, folder, path, names) {
@@ -121,6 +128,7 @@ fn remove_folder<F: Folder>(alloc: Global, folder: &mut F, path: &Path) -> Tried
     ensures tries { F.told folder.old → RemovesTry (F.token folder.old) path.now result (F.history folder.old) (F.history folder.new) (F.faults folder.old) (F.faults folder.new) }
     ensures told { F.told folder.old → F.told folder.new }
     ensures token { F.token folder.new ≡ F.token folder.old }
+    ensures opens { F.opens folder.new ≡ F.opens folder.old }
     ensures later { F.faults folder.old ≤ F.faults folder.new }
 {
     match folder.list(path) {
@@ -147,6 +155,7 @@ fn remove_named_file<F: Folder>(alloc: Global, folder: &mut F, name: &str) -> Tr
     ensures tries { F.told folder.old → RemovalTry (F.token folder.old) Kind.File name.now result (F.history folder.old) (F.history folder.new) (F.faults folder.old) (F.faults folder.new) }
     ensures told { F.told folder.old → F.told folder.new }
     ensures token { F.token folder.new ≡ F.token folder.old }
+    ensures opens { F.opens folder.new ≡ F.opens folder.old }
     ensures later { F.faults folder.old ≤ F.faults folder.new }
 {
     match read_path(alloc, name) {
@@ -160,6 +169,7 @@ fn remove_named_folder<F: Folder>(alloc: Global, folder: &mut F, name: &str) -> 
     ensures tries { F.told folder.old → RemovalTry (F.token folder.old) Kind.Folder name.now result (F.history folder.old) (F.history folder.new) (F.faults folder.old) (F.faults folder.new) }
     ensures told { F.told folder.old → F.told folder.new }
     ensures token { F.token folder.new ≡ F.token folder.old }
+    ensures opens { F.opens folder.new ≡ F.opens folder.old }
     ensures later { F.faults folder.old ≤ F.faults folder.new }
 {
     match read_path(alloc, name) {
@@ -174,6 +184,7 @@ pub fn remove<F: Folder>(alloc: Global, folder: &mut F, kind: Kind, name: &str) 
     ensures tries { F.told folder.old → RemovalTry (F.token folder.old) kind name.now result (F.history folder.old) (F.history folder.new) (F.faults folder.old) (F.faults folder.new) }
     ensures told { F.told folder.old → F.told folder.new }
     ensures token { F.token folder.new ≡ F.token folder.old }
+    ensures opens { F.opens folder.new ≡ F.opens folder.old }
     ensures later { F.faults folder.old ≤ F.faults folder.new }
     ensures semlock { kind ≡ Kind.Semlock → result ≡ Tried.Kept }
 {

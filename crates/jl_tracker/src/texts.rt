@@ -1,5 +1,5 @@
 // What the tracker writes.
-ghost use Rattle.std.specs.Prelude.{◌≡◌, ◌∷◌, [], true, false, IfOk, string_bytes, codes, MatchBool};
+ghost use Rattle.std.specs.Prelude.{◌≡◌, ◌≤◌, ◌∷◌, [], true, false, IfOk, string_bytes, codes, MatchBool};
 ghost use Rattle.jl_tracker.specs.TrackerLines.{word_of};
 ghost use Rattle.jl_tracker.specs.Effects.{about as about_lem, bad_text};
 ghost use Rattle.jl_tracker.specs.Plays.{Wrote};
@@ -35,6 +35,7 @@ fn about_bad(alloc: Global, number: u64) -> Result<String, AllocError>
 fn put<E: Sink>(err: &mut E, text: &str)
     ensures wrote { E.told err.old → Wrote text.now (E.written err.old) (E.written err.new) (E.faults err.old) (E.faults err.new) }
     ensures told { E.told err.old → E.told err.new }
+    ensures later { E.faults err.old ≤ E.faults err.new }
 {
     match write_all(err, text.as_bytes()) {
         WroteAll::Done => {}
@@ -46,6 +47,7 @@ fn put<E: Sink>(err: &mut E, text: &str)
 pub fn say<E: Sink>(alloc: Global, err: &mut E, what: &str, kind: Kind, name: &str) -> bool
     ensures wrote { MatchBool result (E.told err.old → Wrote (about_lem what.now kind name.now) (E.written err.old) (E.written err.new) (E.faults err.old) (E.faults err.new)) (err.new ≡ err.old) }
     ensures told { E.told err.old → E.told err.new }
+    ensures later { E.faults err.old ≤ E.faults err.new }
 {
     match about(alloc, what, kind, name) {
         Ok(text) => {
@@ -60,6 +62,7 @@ pub fn say<E: Sink>(alloc: Global, err: &mut E, what: &str, kind: Kind, name: &s
 pub fn say_bad<E: Sink>(alloc: Global, err: &mut E, number: u64) -> bool
     ensures wrote { MatchBool result (E.told err.old → Wrote (bad_text number) (E.written err.old) (E.written err.new) (E.faults err.old) (E.faults err.new)) (err.new ≡ err.old) }
     ensures told { E.told err.old → E.told err.new }
+    ensures later { E.faults err.old ≤ E.faults err.new }
 {
     match about_bad(alloc, number) {
         Ok(text) => {

@@ -1,4 +1,4 @@
-use Rattle.std.proofs.Common.{◌≡◌, ◌∙◌, ◌∷◌, ◌++◌, [], true, false, refl, sym, ap, subst}
+use Rattle.std.proofs.Common.{◌≡◌, ◌≤◌, ◌∙◌, ◌∷◌, ◌++◌, [], true, false, arith, refl, sym, ap, subst}
 use Rattle.std.proofs.lemmas.List.{append_assoc}
 use Rattle.jl_tracker.specs.Counting.{left_of}
 use Rattle.jl_tracker.specs.Effects.{reports_leaked, removes, left_effects, end_effects}
@@ -37,6 +37,9 @@ left-preserved g c =
       folder_told = λ t. c.finish_one.ensures.folder_told (i.folder_told t);
       err_told = λ t. c.finish_one.ensures.err_told (i.err_told t);
       token = c.finish_one.ensures.token ∙ i.token;
+      opens = c.finish_one.ensures.opens ∙ i.opens;
+      folder_later = omega (arith, i.folder_later, c.finish_one.ensures.folder_later);
+      err_later = omega (arith, i.err_later, c.finish_one.ensures.err_later);
       removable = (subst AreRemovable c.in-Some.ensures.0 i.removable).1;
       played = (first ++ pair, split, ends_then (F.told c.args.folder.now) (F.told c.left.folder) (E.told c.args.err.now) (E.told c.left.err) (F.token c.args.folder.now) (F.token c.left.folder) first pair a _ b true i.folder_told i.err_told i.token i.played.2 c.if-not-finish_one.ensures.plays);
     }

@@ -10,6 +10,9 @@ lines-init g c = record {
   err_told = λ t. t;
   token = refl;
   later = omega arith;
+  opens = refl;
+  folder_later = omega arith;
+  err_later = omega arith;
   going = going_start _ _ _ _ (g.S.Source.left c.args.source.now) _ c.new-reader.result c.new-counts.result c.new-reader.ensures c.new-counts.ensures;
 }
 
@@ -19,7 +22,7 @@ handle-requires g c = left_removable c.lines.counts c.lines.invariant.going.path
 pub returns-in-Some-clause-tracks : goal.returns-in-Some-clause-tracks
 returns-in-Some-clause-tracks g c =
     let i = c.lines.invariant in
-    concludes _ _ _ _ _ _ _ _ _ (g.S.Source.left c.lines.source) _ _ _ _ c.lines.reader c.next-answer.new.self c.lines.counts c.next-answer.result c.in-Some.end i.source_told i.folder_told i.err_told i.token i.going c.next-answer.ensures.step c.in-Some.ensures.cases
+    concludes _ _ _ _ _ _ _ _ _ (g.S.Source.left c.lines.source) _ _ _ _ c.lines.reader c.next-answer.new.self c.lines.counts c.next-answer.result c.number-number.result c.in-Some.end c.number-number.ensures i.source_told i.folder_told i.err_told i.token i.going c.next-answer.ensures.step c.in-Some.ensures.cases
 
 pub lines-smaller : goal.lines-smaller
 lines-smaller g c =
@@ -35,5 +38,8 @@ lines-preserved g c =
       err_told = λ t. c.handle.ensures.err_told (i.err_told t);
       token = c.handle.ensures.token ∙ i.token;
       later = omega (arith, i.later, c.next-answer.ensures.faults.later);
+      opens = c.handle.ensures.opens ∙ i.opens;
+      folder_later = omega (arith, i.folder_later, c.handle.ensures.folder_later);
+      err_later = omega (arith, i.err_later, c.handle.ensures.err_later);
       going = goes_on _ _ _ _ _ _ _ _ _ (g.S.Source.left c.lines.source) _ _ _ _ c.lines.reader c.next-answer.new.self c.lines.counts c.handle.new.counts c.next-answer.result i.source_told i.folder_told i.err_told i.token i.going c.next-answer.ensures.step c.in_default.ensures.cases;
     }

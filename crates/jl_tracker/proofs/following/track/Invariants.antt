@@ -15,6 +15,9 @@ invariant-lines g l =
       err_told : E.told l.initial.err → E.told l.err;
       token : F.token l.folder ≡ F.token l.initial.folder;
       later : S.faults l.initial.source ≤ S.faults l.source;
+      opens : F.opens l.folder ≡ F.opens l.initial.folder;
+      folder_later : F.faults l.initial.folder ≤ F.faults l.folder;
+      err_later : E.faults l.initial.err ≤ E.faults l.err;
       going : Going (S.told l.initial.source) (F.told l.initial.folder) (E.told l.initial.err) (F.token l.initial.folder) (S.left l.initial.source) (waiting l.reader ++ S.left l.source)
           (stage (F.history l.initial.folder) (F.faults l.initial.folder) (E.written l.initial.err) (E.faults l.initial.err)) (stage (F.history l.folder) (F.faults l.folder) (E.written l.err) (E.faults l.err)) l.reader l.counts;
     }

@@ -27,6 +27,7 @@ names-preserved g c =
     record {
       told = λ t. c.try_name.ensures.told (c.names.invariant.told t);
       token = c.try_name.ensures.token ∙ c.names.invariant.token;
+      opens = c.try_name.ensures.opens ∙ c.names.invariant.opens;
       later = omega (arith, c.names.invariant.later, c.try_name.ensures.later);
       tried = λ t. subst (λ ns. TriedNames (F.token c.args.folder.now) c.args.path.now ns (F.history c.args.folder.now) (F.history c.try_name.new.folder) (F.faults c.args.folder.now) (F.faults c.try_name.new.folder)) (sym grown)
           (tried_names_push (F.token c.args.folder.now) c.args.path.now (take i names) item

@@ -8,6 +8,7 @@ invariant-names g l =
     record {
       told : F.told l.initial.folder → F.told l.folder;
       token : F.token l.folder ≡ F.token l.initial.folder;
+      opens : F.opens l.folder ≡ F.opens l.initial.folder;
       later : F.faults l.initial.folder ≤ F.faults l.folder;
       tried : F.told l.initial.folder → TriedNames (F.token l.initial.folder) l.path (take l.name-index l.names) (F.history l.initial.folder) (F.history l.folder) (F.faults l.initial.folder) (F.faults l.folder);
     }
