@@ -1,21 +1,20 @@
 -- Making the entry's folder.
-use Rattle.std.proofs.Common.{◌≡◌, ◌≢◌, ◌⊎◌, inl, inr, ⊎_elim, ℕ, true, false, Bool, List, [], ◌∷◌, ◌++◌, Option, None, Some, IsSome, is_some, true≢false, refl, sym, ap, subst, ◌∙◌}
+use Rattle.std.proofs.Common.{◌≡◌, ◌≢◌, ◌⊎◌, inl, inr, ⊎_elim, ℕ, true, false, List, [], ◌++◌, Option, None, Some, IsSome, true≢false, refl, sym, ap, subst, ◌∙◌}
 use Rattle.std.specs.Option.{option_map_or}
-use Rattle.jl_text.specs.Paths.{PathView, parent}
+use Rattle.jl_text.specs.Paths.{PathView}
 use Rattle.jl_folder.specs.declared.moves.Place.{Place}
 use Rattle.jl_folder.specs.declared.moves.Place.TheVariants.{Folder, File}
 use Rattle.jl_folder.specs.declared.moves.Move.{Move}
-use Rattle.jl_folder.specs.declared.moves.Move.TheVariants.{MakeDir, Create, Append, Rename, Remove, RemoveDir}
+use Rattle.jl_folder.specs.declared.moves.Move.TheVariants.{MakeDir}
 use Rattle.jl_folder.specs.declared.folder.MadeDir.{MadeDir}
 use Rattle.jl_folder.specs.declared.folder.MadeDir.TheVariants as made_dir
-use Rattle.jl_folder.specs.State.{State, Trace, History, place_at, is_folder, is_folder_place, has_parent, now, since, after, run}
+use Rattle.jl_folder.specs.State.{State, History, place_at, is_folder, is_folder_place, now, since, after, run}
 use Rattle.jl_folder.specs.Calls.{Call, MakesDir, Maybe, own_event}
 use Rattle.jl_folder.proofs.Traces.{run-append}
-use Rattle.jl_entry.specs.Names.{IsStoreFolder}
 use Rattle.jl_entry.specs.declared.names.EntryFile.{EntryFile}
 use Rattle.jl_entry.specs.declared.names.EntryFile.TheVariants.{Output, Metadata, Access}
 use Rattle.jl_claims.specs.Steps.{OwnMoves, IsLone}
-use Rattle.jl_claims.specs.Claims.{GoesOn, Anywhere}
+use Rattle.jl_claims.specs.Claims.{Anywhere}
 use Rattle.jl_claims.specs.Touches.{Touches, TouchedByOther}
 use Rattle.jl_claims.proofs.Since.{now_went, went_none}
 use Rattle.jl_claims.proofs.Alone.{moves_alone}
@@ -23,7 +22,7 @@ use Rattle.jl_claims.proofs.Traces.{OwnMoves-append, foreign_own}
 use Rattle.jl_claims.proofs.Touched.{IsApart}
 use Rattle.jl_claims.proofs.Effects.{made_here}
 use Rattle.jl_claims.proofs.Causes.{folder_as, until_end, lost_parent}
-use Rattle.jl_claims.proofs.Composed.{IsOwnTurn, went_call, own_still, own_step, own_maybe, turn_called, carried_stable}
+use Rattle.jl_claims.proofs.Composed.{IsOwnTurn, went_call, own_still, own_step, turn_called, carried_stable}
 use Rattle.jl_laws.specs.Tidy.{IsTidy}
 use Rattle.jl_laws.specs.Proper.{IsProper}
 use Rattle.jl_laws.proofs.Kills.{tidy_carried}

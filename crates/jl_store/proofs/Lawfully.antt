@@ -1,12 +1,12 @@
 -- Calls that are lawful throughout, from a sound state to a sound one.
-use Rattle.std.proofs.Common.{◌≡◌, ◌∙◌, ℕ, List, ◌++◌, refl, sym, ap, subst}
+use Rattle.std.proofs.Common.{◌≡◌, ℕ, List, ◌++◌, sym, subst}
 use Rattle.jl_text.specs.Paths.{PathView}
 use Rattle.jl_folder.specs.declared.moves.Move.{Move}
-use Rattle.jl_folder.specs.State.{State, Trace, History, IsTrace, now, since, run}
+use Rattle.jl_folder.specs.State.{State, History, now, since}
 use Rattle.jl_folder.specs.Calls.{Waits}
-use Rattle.jl_claims.specs.Steps.{StepFact, AllSteps, Throughout, OwnMoves}
-use Rattle.jl_claims.specs.Claims.{Called}
-use Rattle.jl_claims.proofs.Since.{Went, now_went, since_then}
+use Rattle.jl_claims.specs.Steps.{StepFact, AllSteps}
+use Rattle.jl_claims.specs.Claims.{Called, GoesOn}
+use Rattle.jl_claims.proofs.Since.{now_went, since_then}
 use Rattle.jl_claims.proofs.Traces.{AllSteps-left, AllSteps-right, Throughout-weaken, OwnMoves-weaken}
 use Rattle.jl_claims.proofs.Composed.{carried_stable, waits_called, not_called, then_called, called_went}
 use Rattle.jl_laws.specs.Whole.{Answers}
@@ -20,6 +20,9 @@ module _ (root : PathView) (answer : Answers) (token : List ℕ) where
   -- lawful throughout, from a sound state to one
   abbrev pub Lawfully : History → History → Type 0
   Lawfully old new = Called (IsLawful root answer) (IsLawful root answer) token AnyMove (IsSound root answer) (IsSound root answer) old new
+
+  pub lawful_goes : (old new : History) → Lawfully old new → GoesOn old new
+  lawful_goes old new call = record { start = call.start; trace = call.trace; lawful = call.lawful }
 
   -- while others move
   pub lawful_waits : (old new : History) → Waits token old new → Lawfully old new

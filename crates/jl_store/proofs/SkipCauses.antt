@@ -51,7 +51,7 @@ folder_here s p e =
       | Some k ↦ elim k as (λ (j : Place). is_folder_place j ≡ true → Some j ≡ Some Folder) [ Folder ↦ λ h. refl | File n ↦ λ h. absurd (true≢false (sym h)) ]
     ] e
 
-and_second : (a b : Bool) → (a && b) ≡ true → b ≡ true
+pub and_second : (a b : Bool) → (a && b) ≡ true → b ≡ true
 and_second true b e = e
 and_second false b e = absurd (true≢false (sym e))
 

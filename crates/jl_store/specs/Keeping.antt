@@ -1,6 +1,6 @@
 -- What keeping an answer does, whatever others do.
 use Rattle.std.specs.Prelude.{◌≡◌, ◌⊎◌, ◌≤◌, ℕ, true, false, List, [], ◌∷◌, ◌++◌, None, Some, length, ⊤}
-use Rattle.jl_text.specs.Paths.{PathView, parent}
+use Rattle.jl_text.specs.Paths.{PathView}
 use Rattle.jl_folder.specs.declared.moves.Move.{Move}
 use Rattle.jl_folder.specs.declared.moves.Move.TheVariants.{MakeDir, Create, Append, Rename, Remove, RemoveDir}
 use Rattle.jl_folder.specs.State.{State, Event, Trace, History, place_at, is_folder, bytes_at, now, since}

@@ -1,11 +1,15 @@
+pub mod Alone
 pub mod Cached
 pub mod Checking
 pub mod Doing
 pub mod Keeping
 pub mod Kinds
 pub mod Looking
+pub mod Next
+pub mod Parts
 pub mod Publishing
 pub mod Reading
 pub mod Storing
 pub mod Trust
+pub mod Warned
 pub mod Warnings

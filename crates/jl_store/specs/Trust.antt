@@ -1,5 +1,4 @@
 -- What a call over the store may rest on.
-use Rattle.std.specs.Prelude.{ℕ, List}
 use Rattle.jl_text.specs.Paths.{PathView}
 use Rattle.jl_folder.specs.State.{History, now, since}
 use Rattle.jl_claims.specs.Steps.{AllSteps}

@@ -1,20 +1,31 @@
 // One cached call.
-ghost use Rattle.std.specs.Prelude.{◌≡◌, ◌≤◌, ◌⊎◌, ℕ, List, Some, None, Option, IsSome, IfOk, OnOk, IsTrue, IsUtf8, length};
+ghost use Rattle.std.specs.Prelude.{◌≡◌, ◌≢◌, ◌≤◌, ◌⊎◌, ◌++◌, ℕ, List, Some, None, Option, IsSome, IfOk, OnOk, OnErr, IsTrue, IsUtf8, length};
 ghost use Rattle.jl_text.specs.Texts.{is_name};
+ghost use Rattle.jl_text.specs.Counts.{Rose};
+ghost use Rattle.jl_folder.specs.State.{now, since};
+ghost use Rattle.jl_streams.specs.Moments.{moment_of};
 ghost use Rattle.jl_value.specs.Tree.{nesting};
 ghost use Rattle.jl_value.specs.Form.{tree_of};
 ghost use Rattle.jl_value.specs.Canonical.{text_of};
 ghost use Rattle.jl_value.specs.Key.{args_tree, key_of};
 ghost use Rattle.jl_value.specs.Proper.{IsProper as IsProperTree};
 ghost use Rattle.jl_value.specs.Library.{next_count, value as value_is};
-ghost use Rattle.jl_entry.specs.Moments.{IsMoment};
+ghost use Rattle.jl_entry.specs.Entry.{Members};
+ghost use Rattle.jl_entry.specs.Moments.{IsMoment, access_text};
 ghost use Rattle.jl_entry.specs.Names.{root_of};
+ghost use Rattle.jl_entry.specs.declared.names.EntryFile.{EntryFile};
 ghost use Rattle.jl_laws.specs.Whole.{Answers};
-ghost use Rattle.jl_laws.specs.Tidy.{IsSound};
+ghost use Rattle.jl_laws.specs.Tidy.{IsTidy, IsSound};
 ghost use Rattle.jl_laws.specs.Proper.{IsLawful};
 ghost use Rattle.jl_claims.specs.Claims.{Called as CallsFolder};
-ghost use Rattle.jl_store.specs.Keeping.{IsKeepable};
-ghost use Rattle.jl_store.specs.Cached.{AnyMove, IsAnswer, CountsCall, IsMissed};
+ghost use Rattle.jl_claims.specs.Steps.{IsLone};
+ghost use Rattle.jl_store.specs.Publishing.{IsPublished};
+ghost use Rattle.jl_store.specs.Keeping.{IsKeepable, IsReadyToKeep, IsReadyToTouch, HasEntry, entry_in, last_of, temp_of, texts as texts_of};
+ghost use Rattle.jl_store.specs.Looking.{Stands, output_path};
+ghost use Rattle.jl_store.specs.Cached.{AnyMove, IsAnswer, CountsCall, IsMissed, ComesBy, ComesTidy};
+ghost use Rattle.jl_store.specs.Next.{AnswersAlone, LeavesNext, AreTimed, asked};
+ghost use Rattle.jl_store.specs.Warned.{IsOrderly, Warns, WarnsOfOthers};
+ghost use Rattle.jl_store.specs.Parts.{WarnsFrom, HasFunction, HasFolder, keep_warns, check_warns};
 ghost use Rattle.jl_store.specs.Trust.{IsTrusted};
 
 use crate::answer::Keep;
@@ -65,7 +76,11 @@ fn warn_of(
     keep: Keep,
     name: &str,
     key: &Key,
-) -> Result<(), AllocError> {
+) -> Result<(), AllocError>
+    ensures ok { OnOk result (warnings.new.items ≡ warnings.old.items ++ keep_warns keep name.now key.now) }
+    ensures err { OnErr result (warnings.new.items ≡ warnings.old.items) }
+    ensures memory { OnOk result (keep ≢ Keep.NoMemory) }
+{
     match keep {
         Keep::Kept => Ok(()),
         Keep::Skipped => warn(alloc, warnings, WarnKind::Skipped, name, Key(key.0)),
@@ -81,7 +96,11 @@ fn warn_of_check(
     check: CodeCheck,
     name: &str,
     key: &Key,
-) -> Result<(), AllocError> {
+) -> Result<(), AllocError>
+    ensures ok { OnOk result (warnings.new.items ≡ warnings.old.items ++ check_warns check name.now key.now) }
+    ensures err { OnErr result (warnings.new.items ≡ warnings.old.items) }
+    ensures memory { OnOk result (check ≢ CodeCheck.NoMemory) }
+{
     match check {
         CodeCheck::Same => Ok(()),
         CodeCheck::Written => Ok(()),
@@ -110,6 +129,12 @@ fn found<F: Folder, H: Host>(
     ensures lawful { F.told folder.old → (answer : Answers) → CallsFolder (IsLawful (root_of memory.now.location) answer) (IsLawful (root_of memory.now.location) answer) (F.token folder.old) AnyMove
         (IsSound (root_of memory.now.location) answer) (IsSound (root_of memory.now.location) answer) (F.history folder.old) (F.history folder.new) }
     ensures found { (result ≡ Cached.Hit value) ⊎ (result ≡ Cached.NoMemory) }
+    ensures warns { (c : List ℕ) (n : ℕ) (ps : Members) → key.now.0 ≡ key_of ps →
+        WarnsFrom (HasFolder (asked memory.now name.now c n ps)) warnings.old.items warnings.new.items (asked memory.now name.now c n ps) (F.told folder.old) (F.faults folder.old) (F.faults folder.new) (F.history folder.old) (F.history folder.new) }
+    ensures alone { F.told folder.old → IsLone (F.token folder.old) (since (F.history folder.old) (F.history folder.new)) →
+        IsReadyToTouch (entry_in memory.now name.now key.now.0) (now (F.history folder.old)) → (Rose (F.faults folder.old) (F.faults folder.new) → ⊥) → result ≡ Cached.Hit value →
+        (moment : ℕ) × IsPublished (last_of (entry_in memory.now name.now key.now.0) EntryFile.Access) (temp_of (entry_in memory.now name.now key.now.0) (F.token folder.old) EntryFile.Access) (access_text moment) (now (F.history folder.old)) (now (F.history folder.new))
+        × (H.told host.old → moment ≡ moment_of (H.moments host.old)) }
     ensures told { F.told folder.old → F.told folder.new }
     ensures token { F.token folder.new ≡ F.token folder.old }
     ensures opens { F.opens folder.new ≡ F.opens folder.old }
@@ -148,6 +173,11 @@ fn computed<F: Folder>(
     ensures lawful { F.told folder.old → (answer : Answers) → answer code.now args.now ≡ value_is (tree_of value) → CallsFolder (IsLawful (root_of memory.now.location) answer) (IsLawful (root_of memory.now.location) answer) (F.token folder.old) AnyMove
         (IsSound (root_of memory.now.location) answer) (IsSound (root_of memory.now.location) answer) (F.history folder.old) (F.history folder.new) }
     ensures computed { (result ≡ Cached.Computed value) ⊎ (result ≡ Cached.NoMemory) }
+    ensures warns { (n : ℕ) →
+        WarnsFrom (HasFunction (asked memory.now name.now code.now n args.now)) warnings.old.items warnings.new.items (asked memory.now name.now code.now n args.now) (F.told folder.old) (F.faults folder.old) (F.faults folder.new) (F.history folder.old) (F.history folder.new) }
+    ensures alone { F.told folder.old → IsLone (F.token folder.old) (since (F.history folder.old) (F.history folder.new)) →
+        IsReadyToKeep (entry_in memory.now name.now (key_of args.now)) (now (F.history folder.old)) → (Rose (F.faults folder.old) (F.faults folder.new) → ⊥) → result ≡ Cached.Computed value →
+        HasEntry (entry_in memory.now name.now (key_of args.now)) (F.token folder.old) (texts_of code.now args.now (tree_of value) duration moment) (now (F.history folder.old)) (now (F.history folder.new)) }
     ensures told { F.told folder.old → F.told folder.new }
     ensures token { F.token folder.new ≡ F.token folder.old }
     ensures opens { F.opens folder.new ≡ F.opens folder.old }
@@ -188,6 +218,13 @@ fn missed<L: Library, F: Folder, H: Host>(
     ensures lawful { F.told folder.old → CallsFolder (IsLawful (root_of memory.now.location) L.answer) (IsLawful (root_of memory.now.location) L.answer) (F.token folder.old) AnyMove
         (IsSound (root_of memory.now.location) L.answer) (IsSound (root_of memory.now.location) L.answer) (F.history folder.old) (F.history folder.new) }
     ensures missed { IsMissed result (L.answer code.now args.now) (L.calls lib.old) (L.calls lib.new) }
+    ensures warns { (n : ℕ) →
+        WarnsFrom (HasFunction (asked memory.now name.now code.now n args.now)) warnings.old.items warnings.new.items (asked memory.now name.now code.now n args.now) (F.told folder.old) (F.faults folder.old) (F.faults folder.new) (F.history folder.old) (F.history folder.new) }
+    ensures alone { F.told folder.old → (n : ℕ) → IsLone (F.token folder.old) (since (F.history folder.old) (F.history folder.new)) →
+        IsReadyToKeep (entry_in memory.now name.now (key_of args.now)) (now (F.history folder.old)) → (Rose (F.faults folder.old) (F.faults folder.new) → ⊥) →
+        (Stands (output_path (root_of memory.now.location) memory.now.«module» name.now args.now) code.now args.now (now (F.history folder.old)) → ⊥) →
+        (duration : ℕ) × (moment : ℕ) × AnswersAlone result (asked memory.now name.now code.now n args.now) duration moment (now (F.history folder.old)) (now (F.history folder.new))
+        × (H.told host.old → AreTimed result duration moment (H.moments host.old)) }
     ensures loaded { L.loaded lib.new ≡ L.loaded lib.old }
     ensures told { F.told folder.old → F.told folder.new }
     ensures token { F.token folder.new ≡ F.token folder.old }
@@ -237,8 +274,20 @@ fn answered<L: Library, F: Folder, H: Host>(
     requires proper { IsProperTree (args_tree args.now) }
     requires depth { nesting (args_tree args.now) ≤ 64 }
     requires size { length (text_of (args_tree args.now)) ≤ 1048576 }
+    requires key { key.now.0 ≡ key_of args.now }
     ensures lawful { F.told folder.old → CallsFolder (IsLawful (root_of memory.now.location) L.answer) (IsLawful (root_of memory.now.location) L.answer) (F.token folder.old) AnyMove
         (IsSound (root_of memory.now.location) L.answer) (IsSound (root_of memory.now.location) L.answer) (F.history folder.old) (F.history folder.new) }
+    ensures warns { (n : ℕ) →
+        WarnsFrom (HasFunction (asked memory.now name.now code.now n args.now)) warnings.old.items warnings.new.items (asked memory.now name.now code.now n args.now) (F.told folder.old) (F.faults folder.old) (F.faults folder.new) (F.history folder.old) (F.history folder.new) }
+    ensures alone { F.told folder.old → (n : ℕ) → IsLone (F.token folder.old) (since (F.history folder.old) (F.history folder.new)) →
+        IsReadyToKeep (entry_in memory.now name.now (key_of args.now)) (now (F.history folder.old)) → (Rose (F.faults folder.old) (F.faults folder.new) → ⊥) →
+        (duration : ℕ) × (moment : ℕ) × AnswersAlone result (asked memory.now name.now code.now n args.now) duration moment (now (F.history folder.old)) (now (F.history folder.new))
+        × (H.told host.old → AreTimed result duration moment (H.moments host.old)) }
+    ensures looks { ComesBy result (F.told folder.old) (output_path (root_of memory.now.location) memory.now.«module» name.now args.now) code.now args.now
+        (F.faults folder.old) (F.faults folder.new) (now (F.history folder.old)) (since (F.history folder.old) (F.history folder.new)) }
+    ensures tidy { F.told folder.old → IsOrderly (root_of memory.now.location) (F.history folder.old) (F.history folder.new) →
+        ComesTidy result (output_path (root_of memory.now.location) memory.now.«module» name.now args.now) code.now args.now
+        (F.faults folder.old) (F.faults folder.new) (now (F.history folder.old)) (since (F.history folder.old) (F.history folder.new)) }
     ensures answer { IsAnswer result (L.answer code.now args.now) (IsTrusted (root_of memory.now.location) L.answer (F.told folder.old) (F.history folder.old) (F.history folder.new)) }
     ensures calls { CountsCall result (L.calls lib.old) (L.calls lib.new) }
     ensures loaded { L.loaded lib.new ≡ L.loaded lib.old }
@@ -282,6 +331,23 @@ pub fn call_cached<L: Library, F: Folder, H: Host>(
     ensures answer { (c : List ℕ) → L.code (L.loaded lib.old) name.now ≡ Some c
         → IsAnswer result (L.answer c args.now) (IsTrusted (root_of memory.now.location) L.answer (F.told folder.old) (F.history folder.old) (F.history folder.new)) }
     ensures calls { CountsCall result (L.calls lib.old) (L.calls lib.new) }
+    // A value was found where its entry was opened, and else the function was called.
+    ensures looks { (c : List ℕ) → L.code (L.loaded lib.old) name.now ≡ Some c →
+        ComesBy result (F.told folder.old) (output_path (root_of memory.now.location) memory.now.«module» name.now args.now) c args.now
+        (F.faults folder.old) (F.faults folder.new) (now (F.history folder.old)) (since (F.history folder.old) (F.history folder.new)) }
+    ensures tidy { (c : List ℕ) → L.code (L.loaded lib.old) name.now ≡ Some c → F.told folder.old → IsOrderly (root_of memory.now.location) (F.history folder.old) (F.history folder.new) →
+        ComesTidy result (output_path (root_of memory.now.location) memory.now.«module» name.now args.now) c args.now
+        (F.faults folder.old) (F.faults folder.new) (now (F.history folder.old)) (since (F.history folder.old) (F.history folder.new)) }
+    // Each warning is on this call, and has its cause.
+    ensures warns { (c : List ℕ) (n : ℕ) → L.code (L.loaded lib.old) name.now ≡ Some c → L.line (L.loaded lib.old) name.now ≡ n →
+        Warns warnings.old.items warnings.new.items (asked memory.now name.now c n args.now) (F.told folder.old) (F.faults folder.old) (F.faults folder.new) (F.history folder.old) (F.history folder.new) }
+    // Where no other moved and no fault rose, it leaves the folder so: the code checked, and then the answer found or kept.
+    ensures alone { F.told folder.old → (c : List ℕ) (n : ℕ) → L.code (L.loaded lib.old) name.now ≡ Some c → L.line (L.loaded lib.old) name.now ≡ n →
+        IsLone (F.token folder.old) (since (F.history folder.old) (F.history folder.new)) → IsTidy (root_of memory.now.location) (now (F.history folder.old)) → (Rose (F.faults folder.old) (F.faults folder.new) → ⊥) →
+        (duration : ℕ) × (moment : ℕ) × LeavesNext result (asked memory.now name.now c n args.now) duration moment (now (F.history folder.old)) (now (F.history folder.new))
+        × (H.told host.old → AreTimed result duration moment (H.moments host.old)) }
+    ensures quiet { F.told folder.old → IsLone (F.token folder.old) (since (F.history folder.old) (F.history folder.new)) → IsSound (root_of memory.now.location) L.answer (now (F.history folder.old)) →
+        (Rose (F.faults folder.old) (F.faults folder.new) → ⊥) → WarnsOfOthers warnings.old.items warnings.new.items }
     ensures loaded { L.loaded lib.new ≡ L.loaded lib.old }
     ensures told { F.told folder.old → F.told folder.new }
     ensures token { F.token folder.new ≡ F.token folder.old }

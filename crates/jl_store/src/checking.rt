@@ -5,17 +5,20 @@ ghost use Rattle.jl_text.specs.Texts.{is_name};
 ghost use Rattle.jl_folder.specs.State.{place_at, has_parent, now, since};
 ghost use Rattle.jl_folder.specs.declared.moves.Place.{Place};
 ghost use Rattle.jl_folder.specs.Calls.{Waits};
-ghost use Rattle.jl_text.specs.Counts.{Faults};
+ghost use Rattle.jl_text.specs.Counts.{Faults, Rose};
 ghost use Rattle.jl_entry.specs.Codes.{code_text};
 ghost use Rattle.jl_entry.specs.Names.{Final, IsFinal, IsTemp, root_of};
-ghost use Rattle.jl_claims.specs.Steps.{AllSteps};
+ghost use Rattle.jl_claims.specs.Steps.{AllSteps, IsLone};
 ghost use Rattle.jl_claims.specs.Touches.{TouchedByOther};
 ghost use Rattle.jl_claims.specs.Claims.{Called, Anywhere};
 ghost use Rattle.jl_laws.specs.Whole.{Answers, IsWhole};
 ghost use Rattle.jl_laws.specs.Tidy.{IsTidy};
 ghost use Rattle.jl_laws.specs.Proper.{IsProper, LawfulThroughout};
+ghost use Rattle.jl_store.specs.Alone.{LeavesAlone};
 ghost use Rattle.jl_store.specs.Kinds.{IsFor, PutsThis, UsesNames};
-ghost use Rattle.jl_store.specs.Checking.{IsHeld, Holds, AreFiles, Stores, MovesFor, Comes, UsesCode, SkipsFor, Checks, IsChecking, check_of, function_path, code_path, code_temp};
+ghost use Rattle.jl_store.specs.Next.{ChecksAlone};
+ghost use Rattle.jl_store.specs.Publishing.{IsPublished};
+ghost use Rattle.jl_store.specs.Checking.{IsHeld, Holds, AreFiles, IsDone, Stores, MovesFor, Comes, UsesCode, SkipsFor, Checks, IsChecking, check_of, function_path, code_path, code_temp};
 
 use crate::checks::{CodeCheck, CodeFiles, Held};
 use crate::clearing::{Clear, clear_entries};
@@ -93,6 +96,8 @@ fn store<F: Folder>(folder: &mut F, files: &CodeFiles, bytes: &[u8], done: CodeC
         IsTemp root x (F.token folder.old) files.now.temp → IsFinal root x files.now.last → IsWhole x bytes.now →
         IsTidy root (now (F.history folder.old)) → has_parent (now (F.history folder.old)) files.now.last ≡ true →
         TouchedByOther (F.token folder.old) (UsesNames files.now.last files.now.temp) (since (F.history folder.old) (F.history folder.new)) }
+    ensures alone { F.told folder.old → IsDone result → IsLone (F.token folder.old) (since (F.history folder.old) (F.history folder.new)) →
+        IsPublished files.now.last files.now.temp bytes.now (now (F.history folder.old)) (now (F.history folder.new)) }
 {
     let published = publish(folder, &files.last, &files.temp, bytes);
     as_check(published, done)
@@ -104,6 +109,7 @@ fn write_new<F: Folder>(alloc: Global, folder: &mut F, files: &CodeFiles, bytes:
     ensures stores { Stores F.token F.told F.history F.opens F.faults files.now bytes.now (MovesFor files.now Held.Absent) result folder.old folder.new }
     ensures comes { Comes result Held.Absent }
     ensures skips { F.told folder.old → SkipsFor result (F.token folder.old) files.now bytes.now Anywhere (F.history folder.old) (F.history folder.new) }
+    ensures alone { F.told folder.old → IsLone (F.token folder.old) (since (F.history folder.old) (F.history folder.new)) → LeavesAlone result (F.token folder.old) files.now bytes.now (now (F.history folder.old)) (now (F.history folder.new)) }
 {
     match make_folders(alloc, folder, &files.folder) {
         MadeFolders::Made => store(folder, files, bytes, CodeCheck::Written),
@@ -124,6 +130,7 @@ fn write_over<F: Folder>(
     ensures stores { Stores F.token F.told F.history F.opens F.faults files.now bytes.now (MovesFor files.now Held.Other) result folder.old folder.new }
     ensures comes { Comes result Held.Other }
     ensures skips { F.told folder.old → SkipsFor result (F.token folder.old) files.now bytes.now (λ s. place_at s files.now.folder ≡ Some Place.Folder) (F.history folder.old) (F.history folder.new) }
+    ensures alone { F.told folder.old → IsLone (F.token folder.old) (since (F.history folder.old) (F.history folder.new)) → LeavesAlone result (F.token folder.old) files.now bytes.now (now (F.history folder.old)) (now (F.history folder.new)) }
 {
     match clear_entries(alloc, folder, &files.folder) {
         Clear::Cleared => store(folder, files, bytes, CodeCheck::Cleared),
@@ -144,6 +151,7 @@ fn follow<F: Folder>(
     ensures stores { Stores F.token F.told F.history F.opens F.faults files.now bytes.now (MovesFor files.now held) result folder.old folder.new }
     ensures comes { Comes result held }
     ensures skips { F.told folder.old → SkipsFor result (F.token folder.old) files.now bytes.now (λ s. held ≡ Held.Other → place_at s files.now.folder ≡ Some Place.Folder) (F.history folder.old) (F.history folder.new) }
+    ensures alone { F.told folder.old → IsLone (F.token folder.old) (since (F.history folder.old) (F.history folder.new)) → LeavesAlone result (F.token folder.old) files.now bytes.now (now (F.history folder.old)) (now (F.history folder.new)) }
 {
     match held {
         Held::Same => CodeCheck::Same,
@@ -194,6 +202,13 @@ pub fn check_code<F: Folder>(
         (code_path (root_of memory.now.location) memory.now.«module» name.now)
         (code_temp (root_of memory.now.location) memory.now.«module» name.now memory.now.token))
         (since (F.history folder.old) (F.history folder.new)) }
+    ensures alone { F.told folder.old → IsLone memory.now.token (since (F.history folder.old) (F.history folder.new)) → IsTidy (root_of memory.now.location) (now (F.history folder.old)) →
+        (Rose (F.faults folder.old) (F.faults folder.new) → ⊥) →
+        ChecksAlone result
+        (function_path (root_of memory.now.location) memory.now.«module» name.now)
+        (code_path (root_of memory.now.location) memory.now.«module» name.now)
+        (code_temp (root_of memory.now.location) memory.now.«module» name.now memory.now.token)
+        code.now (code_text code.now line) (now (F.history folder.old)) (now (F.history folder.new)) }
 {
     let Ok(files) = code_files(alloc, memory, name) else {
         return CodeCheck::NoMemory;

@@ -1,9 +1,16 @@
 // Clearing the entries of a function.
-ghost use Rattle.std.specs.Prelude.{◌≡◌, ◌++◌, ◌∷◌, [], All, IsTrue};
-ghost use Rattle.jl_text.specs.Paths.{is_part};
+ghost use Rattle.std.specs.Prelude.{◌≡◌, ◌⊎◌, ◌++◌, ◌∷◌, [], false, All, IsTrue};
+ghost use Rattle.jl_text.specs.Paths.{PathView, is_part};
 ghost use Rattle.jl_text.specs.Counts.{Rose};
+ghost use Rattle.jl_folder.specs.State.{now, since, is_file, is_folder};
+ghost use Rattle.jl_folder.specs.Calls.{IsKept};
 ghost use Rattle.jl_folder.specs.declared.moves.Move.{Move};
-ghost use Rattle.jl_store.specs.Doing.{Does, IsEmptying, IsClearing};
+ghost use Rattle.jl_entry.specs.Names.{is_key};
+ghost use Rattle.jl_claims.specs.Steps.{IsLone};
+ghost use Rattle.jl_laws.specs.Tidy.{IsTidy};
+ghost use Rattle.jl_store.specs.Alone.{AreAllOf, HasNoEntries, HasNoFilesOf, HasNoFoldersOf, IsEntryFolder, IsGone};
+ghost use Rattle.jl_store.specs.Checking.{IsFunctionFolder};
+ghost use Rattle.jl_store.specs.Doing.{Does, IsEmptying, IsEntryName, IsClearing};
 ghost use Rattle.jl_store.specs.Storing.{clear_of, clear_of_folder};
 
 use crate::names::{is_entry_name, is_key_name};
@@ -46,6 +53,8 @@ fn as_cleared_folder(removed: RemovedDir) -> Clear
 fn clear_file<F: Folder>(folder: &mut F, path: &Path) -> Clear
     ensures does { Does F.token F.told F.history F.opens F.faults (λ m. m ≡ Move.Remove path.now) folder.old folder.new }
     ensures cause { result ≡ Clear.Fault → Rose (F.faults folder.old) (F.faults folder.new) }
+    ensures alone { F.told folder.old → result ≡ Clear.Cleared → IsLone (F.token folder.old) (since (F.history folder.old) (F.history folder.new)) →
+        is_file (now (F.history folder.new)) path.now ≡ false }
 {
     let removed = folder.remove(path);
     as_cleared(removed)
@@ -54,6 +63,8 @@ fn clear_file<F: Folder>(folder: &mut F, path: &Path) -> Clear
 fn clear_folder<F: Folder>(folder: &mut F, path: &Path) -> Clear
     ensures does { Does F.token F.told F.history F.opens F.faults (IsEmptying path.now) folder.old folder.new }
     ensures cause { result ≡ Clear.Fault → Rose (F.faults folder.old) (F.faults folder.new) }
+    ensures alone { F.told folder.old → result ≡ Clear.Cleared → IsLone (F.token folder.old) (since (F.history folder.old) (F.history folder.new)) →
+        (is_folder (now (F.history folder.new)) path.now ≡ false) ⊎ IsKept (now (F.history folder.new)) path.now }
 {
     let removed = folder.remove_dir(path);
     as_cleared_folder(removed)
@@ -64,6 +75,8 @@ fn clear_name<F: Folder>(alloc: Global, folder: &mut F, entry: &Path, part: &str
     requires { IsTrue (is_part part.now) }
     ensures does { Does F.token F.told F.history F.opens F.faults (IsEmptying entry.now) folder.old folder.new }
     ensures cause { result ≡ Clear.Fault → Rose (F.faults folder.old) (F.faults folder.new) }
+    ensures alone { F.told folder.old → result ≡ Clear.Cleared → IsLone (F.token folder.old) (since (F.history folder.old) (F.history folder.new)) →
+        IsEntryName part.now → is_file (now (F.history folder.new)) (entry.now ++ part.now ∷ []) ≡ false }
 {
     if !is_entry_name(part) {
         return Clear::Cleared;
@@ -78,6 +91,8 @@ fn clear_names<F: Folder>(alloc: Global, folder: &mut F, entry: &Path, names: &[
     requires { All (λ n. IsTrue (is_part n.part)) names.now }
     ensures does { Does F.token F.told F.history F.opens F.faults (IsEmptying entry.now) folder.old folder.new }
     ensures cause { result ≡ Clear.Fault → Rose (F.faults folder.old) (F.faults folder.new) }
+    ensures alone { F.told folder.old → result ≡ Clear.Cleared → IsLone (F.token folder.old) (since (F.history folder.old) (F.history folder.new)) →
+        HasNoFilesOf entry.now names.now (now (F.history folder.new)) }
 {
     for name in names {
         match clear_name(alloc, folder, entry, name.part.as_str()) {
@@ -93,6 +108,9 @@ fn clear_listed<F: Folder>(alloc: Global, folder: &mut F, entry: &Path, names: &
     requires { All (λ n. IsTrue (is_part n.part)) names.now }
     ensures does { Does F.token F.told F.history F.opens F.faults (IsEmptying entry.now) folder.old folder.new }
     ensures cause { result ≡ Clear.Fault → Rose (F.faults folder.old) (F.faults folder.new) }
+    ensures alone { F.told folder.old → result ≡ Clear.Cleared → IsLone (F.token folder.old) (since (F.history folder.old) (F.history folder.new)) →
+        (root : PathView) → IsEntryFolder root entry.now → IsTidy root (now (F.history folder.old)) → AreAllOf (now (F.history folder.old)) entry.now names.now →
+        is_folder (now (F.history folder.new)) entry.now ≡ false }
 {
     match clear_names(alloc, folder, entry, names.as_slice()) {
         Clear::Cleared => clear_folder(folder, entry),
@@ -104,6 +122,9 @@ fn clear_listed<F: Folder>(alloc: Global, folder: &mut F, entry: &Path, names: &
 pub(crate) fn clear_entry<F: Folder>(alloc: Global, folder: &mut F, entry: &Path) -> Clear
     ensures does { Does F.token F.told F.history F.opens F.faults (IsEmptying entry.now) folder.old folder.new }
     ensures cause { result ≡ Clear.Fault → Rose (F.faults folder.old) (F.faults folder.new) }
+    ensures alone { F.told folder.old → result ≡ Clear.Cleared → IsLone (F.token folder.old) (since (F.history folder.old) (F.history folder.new)) →
+        (root : PathView) → IsEntryFolder root entry.now → IsTidy root (now (F.history folder.old)) →
+        IsGone entry.now (now (F.history folder.old)) (now (F.history folder.new)) }
 {
     match folder.list(entry) {
         Listed::Names(names) => clear_listed(alloc, folder, entry, &names),
@@ -118,6 +139,9 @@ fn clear_key<F: Folder>(alloc: Global, folder: &mut F, function: &Path, part: &s
     requires { IsTrue (is_part part.now) }
     ensures does { Does F.token F.told F.history F.opens F.faults (IsClearing function.now) folder.old folder.new }
     ensures cause { result ≡ Clear.Fault → Rose (F.faults folder.old) (F.faults folder.new) }
+    ensures alone { F.told folder.old → result ≡ Clear.Cleared → IsLone (F.token folder.old) (since (F.history folder.old) (F.history folder.new)) →
+        (root : PathView) → IsFunctionFolder root function.now → IsTidy root (now (F.history folder.old)) → IsTrue (is_key part.now) →
+        is_folder (now (F.history folder.new)) (function.now ++ part.now ∷ []) ≡ false }
 {
     if !is_key_name(part) {
         return Clear::Cleared;
@@ -132,6 +156,9 @@ fn clear_keys<F: Folder>(alloc: Global, folder: &mut F, function: &Path, names: 
     requires { All (λ n. IsTrue (is_part n.part)) names.now }
     ensures does { Does F.token F.told F.history F.opens F.faults (IsClearing function.now) folder.old folder.new }
     ensures cause { result ≡ Clear.Fault → Rose (F.faults folder.old) (F.faults folder.new) }
+    ensures alone { F.told folder.old → result ≡ Clear.Cleared → IsLone (F.token folder.old) (since (F.history folder.old) (F.history folder.new)) →
+        (root : PathView) → IsFunctionFolder root function.now → IsTidy root (now (F.history folder.old)) →
+        HasNoFoldersOf function.now names.now (now (F.history folder.new)) }
 {
     for name in names {
         match clear_key(alloc, folder, function, name.part.as_str()) {
@@ -146,6 +173,9 @@ fn clear_keys<F: Folder>(alloc: Global, folder: &mut F, function: &Path, names: 
 pub(crate) fn clear_entries<F: Folder>(alloc: Global, folder: &mut F, function: &Path) -> Clear
     ensures does { Does F.token F.told F.history F.opens F.faults (IsClearing function.now) folder.old folder.new }
     ensures cause { result ≡ Clear.Fault → Rose (F.faults folder.old) (F.faults folder.new) }
+    ensures alone { F.told folder.old → result ≡ Clear.Cleared → IsLone (F.token folder.old) (since (F.history folder.old) (F.history folder.new)) →
+        (root : PathView) → IsFunctionFolder root function.now → IsTidy root (now (F.history folder.old)) →
+        HasNoEntries function.now (now (F.history folder.old)) (now (F.history folder.new)) }
 {
     match folder.list(function) {
         Listed::Names(names) => clear_keys(alloc, folder, function, names.as_slice()),

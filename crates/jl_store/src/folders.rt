@@ -4,9 +4,10 @@ ghost use Rattle.jl_text.specs.Paths.{PathView, is_part, is_fixed};
 ghost use Rattle.jl_folder.specs.State.{now, since};
 ghost use Rattle.jl_text.specs.Counts.{Rose};
 ghost use Rattle.jl_entry.specs.Names.{IsStoreFolder};
-ghost use Rattle.jl_claims.specs.Steps.{AllSteps};
+ghost use Rattle.jl_claims.specs.Steps.{AllSteps, IsLone};
 ghost use Rattle.jl_laws.specs.Proper.{IsProper};
 ghost use Rattle.jl_laws.specs.Tidy.{IsTidy};
+ghost use Rattle.jl_store.specs.Alone.{HasFolders};
 ghost use Rattle.jl_store.specs.Checking.{IsFunctionFolder};
 ghost use Rattle.jl_store.specs.Doing.{Does, IsMaking};
 ghost use Rattle.jl_store.specs.Storing.{folders_of, StepOr, FoldersOr};
@@ -93,6 +94,9 @@ pub(crate) fn make_folders<F: Folder>(alloc: Global, folder: &mut F, path: &Path
     ensures folders { F.told folder.old → (root : PathView) → IsFunctionFolder root path.now → IsTidy root (now (F.history folder.old)) →
         AllSteps (IsProper root) (now (F.history folder.old)) (since (F.history folder.old) (F.history folder.new)) →
         FoldersOr result (F.token folder.old) path.now (F.history folder.old) (F.history folder.new) }
+    ensures alone { F.told folder.old → result ≡ MadeFolders.Made → IsLone (F.token folder.old) (since (F.history folder.old) (F.history folder.new)) →
+        (root : PathView) → IsFunctionFolder root path.now → IsTidy root (now (F.history folder.old)) →
+        HasFolders path.now (now (F.history folder.old)) (now (F.history folder.new)) }
 {
     let count = path.parts().len();
     for i in 0..count {

@@ -20,6 +20,7 @@ pub use answer::Keep;
 pub use cached::{Cached, call_cached};
 pub use checking::check_code;
 pub use checks::CodeCheck;
+pub use clearing::Clear;
 pub use files::{Published, publish};
 pub use found::Look;
 pub use jl_folder::FileRead;

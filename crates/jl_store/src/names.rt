@@ -6,7 +6,8 @@ ghost use Rattle.jl_store.specs.Doing.{IsEntryName};
 
 // Whether the bytes are `.tmp-` and a token.
 fn is_suffix(rest: &[u8]) -> bool
-    ensures { result ≡ true → (token : List ℕ) × (rest.now ≡ suffix token) }
+    ensures is { result ≡ true → (token : List ℕ) × (rest.now ≡ suffix token) }
+    ensures every { (token : List ℕ) → rest.now ≡ suffix token → result ≡ true }
 {
     match rest.strip_prefix(b".tmp-") {
         Some(_token) => true,
@@ -16,8 +17,8 @@ fn is_suffix(rest: &[u8]) -> bool
 
 // Whether the bytes are this name, or that with the suffix of a temporary name.
 fn is_named(bytes: &[u8], name: &[u8]) -> bool
-    ensures { result ≡ true → (bytes.now ≡ name.now)
-        ⊎ ((token : List ℕ) × (bytes.now ≡ name.now ++ suffix token)) }
+    ensures is { result ≡ true → (bytes.now ≡ name.now) ⊎ ((token : List ℕ) × (bytes.now ≡ name.now ++ suffix token)) }
+    ensures every { (bytes.now ≡ name.now) ⊎ ((token : List ℕ) × (bytes.now ≡ name.now ++ suffix token)) → result ≡ true }
 {
     let Some(rest) = bytes.strip_prefix(name) else {
         return false;
@@ -30,7 +31,8 @@ fn is_named(bytes: &[u8], name: &[u8]) -> bool
 
 /// Whether a name is that of a file of an entry, or a temporary one of such a file.
 pub(crate) fn is_entry_name(part: &str) -> bool
-    ensures { result ≡ true → IsEntryName part.now }
+    ensures is { result ≡ true → IsEntryName part.now }
+    ensures every { IsEntryName part.now → result ≡ true }
 {
     let bytes = part.as_bytes();
     if is_named(bytes, b"output.json") {
@@ -56,7 +58,8 @@ fn all_hex_codes(bytes: &[u8]) -> bool
 
 /// Whether a name is that of an entry's folder: 32 hexadecimal digits, in lower case.
 pub(crate) fn is_key_name(part: &str) -> bool
-    ensures { result ≡ true → IsTrue (is_key part.now) }
+    ensures is { result ≡ true → IsTrue (is_key part.now) }
+    ensures every { IsTrue (is_key part.now) → result ≡ true }
 {
     let bytes = part.as_bytes();
     if bytes.len() != 32 {

@@ -1,8 +1,16 @@
-use Rattle.std.proofs.Common.{◌≡◌, ◌∙◌, ap, sym}
+use Rattle.std.proofs.Common.{◌≡◌, ◌∙◌, ℕ, ◌-◌, List, ap, refl, sym, subst}
+use Rattle.jl_streams.specs.Moments.{moment_of, moments_after}
+use Rattle.jl_folder.specs.State.{now}
 use Rattle.jl_value.specs.Form.{tree_of}
-use Rattle.jl_value.specs.Library.{value, outcome_of, IsWithin}
+use Rattle.jl_value.specs.Library.{outcome_of}
+use Rattle.jl_value.specs.Key.{key_of}
+use Rattle.jl_store.specs.Keeping.{HasEntry, entry_in, texts}
+use Rattle.jl_store.specs.Next.{asked}
+use Rattle.jl_store.specs.Parts.{HasFunction}
 use Rattle.jl_store.proofs.Answering.{within_value}
 use Rattle.jl_store.proofs.Lawfully.{lawful_none}
+use Rattle.jl_store.proofs.Causing.{warns_none}
+use Rattle.jl_store.proofs.LoneCalls.{computed_leaves, error_leaves, memory_leaves}
 use Rattle.jl_store.proofs.cached.missed.Goals as goal
 
 pub computed-requires-clause-keepable : goal.computed-requires-clause-keepable
@@ -26,3 +34,48 @@ returns-in-Done-Error-clause-lawful g c = λ told. lawful_none _ _ _ (g.F.Folder
 
 pub returns-in-NoMemory-clause-lawful : goal.returns-in-NoMemory-clause-lawful
 returns-in-NoMemory-clause-lawful g c = λ told. lawful_none _ _ _ (g.F.Folder.history c.args.folder.now)
+
+pub returns-in-Done-Value-clause-warns : goal.returns-in-Done-Value-clause-warns
+returns-in-Done-Value-clause-warns g c = c.computed.ensures.warns
+
+pub returns-in-Done-Error-clause-warns : goal.returns-in-Done-Error-clause-warns
+returns-in-Done-Error-clause-warns g c = λ n.
+    let folder = g.F.Folder in
+    let a = asked c.args.memory.now c.args.name.now c.args.code.now n c.args.args.now in
+    let d = c.args.folder.now in
+    warns_none a (HasFunction a) c.args.warnings.now.items c.args.warnings.now.items (folder.told d) (folder.faults d) (folder.faults d) (folder.history d) (folder.history d) refl
+
+pub returns-in-NoMemory-clause-warns : goal.returns-in-NoMemory-clause-warns
+returns-in-NoMemory-clause-warns g c = λ n.
+    let folder = g.F.Folder in
+    let a = asked c.args.memory.now c.args.name.now c.args.code.now n c.args.args.now in
+    let d = c.args.folder.now in
+    warns_none a (HasFunction a) c.args.warnings.now.items c.args.warnings.now.items (folder.told d) (folder.faults d) (folder.faults d) (folder.history d) (folder.history d) refl
+
+pub returns-in-Done-Value-clause-alone : goal.returns-in-Done-Value-clause-alone
+returns-in-Done-Value-clause-alone g c = λ told n lone ready rose stands.
+    let memory = c.args.memory.now in
+    let a = asked memory c.args.name.now c.args.code.now n c.args.args.now in
+    let e = entry_in memory c.args.name.now (key_of c.args.args.now) in
+    let folder = g.F.Folder in
+    let host = g.H.Host in
+    let s = now (folder.history c.args.folder.now) in
+    let t = now (folder.history c.computed.new.folder) in
+    let v = c.in-Done-Value.value in
+    let duration = c.saturating_sub.result in
+    let moment = c.now-after.result in
+    computed_leaves a s t (host.told c.args.host.now) (host.moments c.args.host.now) c.computed.result v duration moment c.computed.ensures.computed stands
+    (λ is. subst (λ (u : List ℕ). HasEntry e u (texts c.args.code.now c.args.args.now (tree_of v) duration moment) s t) c.requires.token (c.computed.ensures.alone told lone ready rose is))
+    (λ tells.
+    let first : c.now-before.result ≡ moment_of (host.moments c.args.host.now) = c.now-before.ensures.moment tells in
+    let second : c.now-after.result ≡ moment_of (moments_after (host.moments c.args.host.now)) = c.now-after.ensures.moment (c.now-before.ensures.told tells) ∙ ap moment_of (c.now-before.ensures.moments tells) in
+    (second, c.saturating_sub.ensures ∙ (λ i. second i - first i)))
+
+pub returns-in-Done-Error-clause-alone : goal.returns-in-Done-Error-clause-alone
+returns-in-Done-Error-clause-alone g c = λ told n lone ready rose stands.
+    error_leaves (asked c.args.memory.now c.args.name.now c.args.code.now n c.args.args.now) (now (g.F.Folder.history c.args.folder.now)) (g.H.Host.told c.args.host.now) (g.H.Host.moments c.args.host.now) c.in-Done-Error.error stands
+
+pub returns-in-NoMemory-clause-alone : goal.returns-in-NoMemory-clause-alone
+returns-in-NoMemory-clause-alone g c = λ told n lone ready rose stands.
+    let s = now (g.F.Folder.history c.args.folder.now) in
+    memory_leaves (asked c.args.memory.now c.args.name.now c.args.code.now n c.args.args.now) s s (g.H.Host.told c.args.host.now) (g.H.Host.moments c.args.host.now)

@@ -1,6 +1,6 @@
 use Rattle.std.proofs.Common.{◌≡◌, ◌∙◌, ℕ, List, refl, sym, subst, arith}
 use Rattle.jl_text.specs.Paths.{PathView}
-use Rattle.jl_folder.specs.State.{History, since}
+use Rattle.jl_folder.specs.State.{History, now, since}
 use Rattle.jl_folder.specs.Calls.{Waits}
 use Rattle.jl_entry.specs.Codes.{code_text}
 use Rattle.jl_entry.specs.Names.{code_of, IsTemp, root_of}
@@ -10,7 +10,9 @@ use Rattle.jl_claims.proofs.Composed.{not_called}
 use Rattle.jl_laws.specs.Proper.{IsProper}
 use Rattle.jl_laws.specs.Tidy.{IsTidy}
 use Rattle.jl_store.specs.Kinds.{PutsThis}
-use Rattle.jl_store.specs.Checking.{UsesCode, MovesFor, IsChecking, function_path, code_path, code_temp}
+use Rattle.jl_store.specs.declared.checks.CodeCheck.{CodeCheck}
+use Rattle.jl_store.proofs.DoingLemmas.{rose_later, later_rose}
+use Rattle.jl_store.specs.Checking.{Comes, UsesCode, MovesFor, IsChecking, function_path, code_path, code_temp}
 use Rattle.jl_store.proofs.StorePaths.{code_whole}
 use Rattle.jl_store.proofs.CheckLemmas.{check_called, check_checks, lawful_code}
 use Rattle.jl_store.specs.Publishing.{EndsIn}
@@ -18,6 +20,12 @@ use Rattle.jl_folder.specs.declared.moves.Move.TheVariants.{Rename}
 use Rattle.jl_laws.specs.Whole.{IsWhole}
 use Rattle.jl_claims.specs.Touches.{TouchedByOther}
 use Rattle.jl_store.proofs.SkipCauses.{skips_held}
+use Rattle.jl_claims.specs.Steps.{IsLone}
+use Rattle.jl_claims.proofs.Alone.{lone_parts, waits_alone}
+use Rattle.jl_claims.proofs.Composed.{goes_waits}
+use Rattle.jl_store.specs.Alone.{LeavesCode}
+use Rattle.jl_store.proofs.CodeAlone.{lone_owed, check_alone}
+use Rattle.jl_store.proofs.LoneMoves.{lone_untouched}
 use Rattle.jl_store.proofs.checking.check_code.Given as given
 use Rattle.jl_store.proofs.checking.check_code.Goals as goal
 
@@ -106,3 +114,27 @@ returns-clause-skipped g c = λ t is tidy all.
     subst (λ (p : PathView). TouchedByOther token (UsesCode p (code_path root c.args.memory.now.module c.args.name.now) (code_temp root c.args.memory.now.module c.args.name.now token)) (since old new)) c.in-Ok.ensures.0
     (subst (λ (p : PathView). TouchedByOther token (UsesCode files.folder p (code_temp root c.args.memory.now.module c.args.name.now token)) (since old new)) c.in-Ok.ensures.1.is
     (subst (λ (p : PathView). TouchedByOther token (UsesCode files.folder files.last p) (since old new)) c.in-Ok.ensures.2.is touched))
+
+pub returns-clause-alone : goal.returns-clause-alone
+returns-clause-alone g c = λ t lone tidy faultless.
+    let root = root_of c.args.memory.now.location in
+    let m = c.args.memory.now.module in
+    let f = c.args.name.now in
+    let token = c.args.memory.now.token in
+    let old = g.F.Folder.history c.args.folder.now in
+    let mid = g.F.Folder.history c.held-held.new.folder in
+    let new = g.F.Folder.history c.follow.new.folder in
+    let told = c.held-held.ensures.told t in
+    let files = c.in-Ok.files in
+    let text : _ ≡ code_text c.args.code.now c.args.line = c.as_slice.ensures ∙ c.in-Ok-write_code.ensures.text in
+    let waits = waited g c t in
+    let parts = lone_parts token old mid new (goes_waits token old mid waits) (c.follow.ensures.stores.goes told) lone in
+    let temp = subst (λ (u : List ℕ). IsTemp root (code_of m f) u files.temp) (sym (token_is g c)) c.in-Ok.ensures.2 in
+    let tidy_mid = subst (IsTidy root) (sym (waits_alone token old mid waits parts.0)) tidy in
+    let leaves = subst (λ (b : List ℕ). LeavesCode c.follow.result files b (now mid) (now new)) text
+    (c.follow.ensures.alone told (subst (λ (u : List ℕ). IsLone u (since mid new)) (sym (token_is g c)) parts.1) root m f c.requires.module_name c.requires.function_name (c.in-Ok.ensures.0, c.in-Ok.ensures.1, temp) tidy_mid) in
+    let all = lone_owed (IsProper root) (PutsThis root (code_path root m f) (code_text c.args.code.now c.args.line)) token (λ u s n owed. owed.0) (now old) (since old new) lone ((returns-clause-called g c t).owes tidy) in
+    check_alone root m f token files c.in-Ok.ensures c.args.code.now (code_text c.args.code.now c.args.line) c.held-held.result c.follow.result old mid new waits parts.0 c.follow.ensures.comes (c.held-held.ensures.holds t) leaves
+    (λ is. lone_untouched token (UsesCode (function_path root m f) (code_path root m f) (code_temp root m f token)) (since old new) lone (returns-clause-skipped g c t is tidy all))
+    (λ is. faultless (rose_later _ _ _ (c.held-held.ensures.faults.failed (subst (λ (r : CodeCheck). Comes r c.held-held.result) is c.follow.ensures.comes)) c.follow.ensures.stores.later))
+    (λ is. faultless (later_rose _ _ _ c.held-held.ensures.faults.later (c.follow.ensures.stores.failed is)))

@@ -1,6 +1,7 @@
 use Rattle.std.proofs.Common.{◌∙◌, sym}
 use Rattle.jl_store.proofs.NamePlaces.{temp_no_folder, final_no_folder}
 use Rattle.jl_store.proofs.SkipCauses.{check_skipped}
+use Rattle.jl_store.proofs.CodeAlone.{done_published}
 use Rattle.jl_store.proofs.checking.store.Goals as goal
 
 -- in a tidy state no folder has the file's names
@@ -8,3 +9,6 @@ pub returns-clause-skipped : goal.returns-clause-skipped
 returns-clause-skipped g c = λ t is root x temp final whole tidy has.
     (c.publish-published.ensures.called t root x temp final whole).skipped (check_skipped c.publish-published.result c.args.done c.requires.unskipped (sym c.as_check.ensures ∙ is))
     (record { last_free = final_no_folder root x _ _ final tidy; temp_free = temp_no_folder root x _ _ _ temp tidy; home = has })
+
+pub returns-clause-alone : goal.returns-clause-alone
+returns-clause-alone g c = λ t done lone. c.publish-published.ensures.alone t (done_published c.publish-published.result c.args.done c.as_check.result c.as_check.ensures done) lone

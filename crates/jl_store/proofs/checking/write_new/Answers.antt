@@ -1,17 +1,20 @@
 use Rattle.std.proofs.Common.{inl, ℕ, List, sym, subst}
-use Rattle.jl_folder.specs.State.{since}
+use Rattle.jl_folder.specs.State.{now, since}
+use Rattle.jl_claims.specs.Steps.{IsLone}
+use Rattle.jl_claims.proofs.Alone.{lone_parts}
 use Rattle.jl_entry.specs.Names.{code_of, IsTemp}
 use Rattle.jl_claims.specs.Touches.{TouchedByOther}
 use Rattle.jl_claims.proofs.Touched.{touched_as}
 use Rattle.jl_store.specs.Kinds.{UsesNames}
 use Rattle.jl_store.specs.Storing.{FoldersOr}
-use Rattle.jl_store.specs.Checking.{UsesCode}
+use Rattle.jl_store.specs.Checking.{UsesCode, IsDone}
 use Rattle.jl_store.specs.declared.folders.MadeFolders.{MadeFolders}
 use Rattle.jl_store.proofs.DoingLemmas.{goes_does}
 use Rattle.jl_store.proofs.SkipCauses.{skips_then, folders_used, steps_first}
 use Rattle.jl_store.specs.Doing.{IsPrefix, IsMaking}
 use Rattle.jl_store.proofs.StorePaths.{making_puts}
 use Rattle.jl_store.proofs.CheckLemmas.{stores_then, stores_only}
+use Rattle.jl_store.proofs.CodeAlone.{writes_code, leaves_written, comes_written}
 use Rattle.jl_store.proofs.checking.write_new.Goals as goal
 
 pub returns-in-Made-clause-stores : goal.returns-in-Made-clause-stores
@@ -49,3 +52,19 @@ returns-in-Fault-clause-skips g c = λ t is root m f hm hf are whole tidy all pr
 
 pub returns-in-NoMemory-clause-skips : goal.returns-in-NoMemory-clause-skips
 returns-in-NoMemory-clause-skips g c = λ t is root m f hm hf are whole tidy all pre. cc
+
+pub returns-in-Made-clause-alone : goal.returns-in-Made-clause-alone
+returns-in-Made-clause-alone g c = λ t lone root m f hm hf are tidy.
+    let token = g.F.Folder.token c.args.folder.now in
+    let files = c.args.files.now in
+    let bytes = c.args.bytes.now in
+    let h0 = g.F.Folder.history c.args.folder.now in
+    let h1 = g.F.Folder.history c.make_folders.new.folder in
+    let h2 = g.F.Folder.history c.store.new.folder in
+    let first = c.make_folders.ensures.does in
+    let t1 = first.tells t in
+    let parts = lone_parts token h0 h1 h2 (goes_does g.F.Folder.token g.F.Folder.told g.F.Folder.history g.F.Folder.opens g.F.Folder.faults (IsMaking files.folder) c.args.folder.now c.make_folders.new.folder first t) (c.store.ensures.stores.goes t1) lone in
+    let before = c.make_folders.ensures.alone t c.in-Made.is parts.0 root (m, f, hm, hf, are.0) tidy in
+    leaves_written c.store.result files bytes (now h0) (now h2) (comes_written c.store.result c.store.ensures.answer)
+    (λ is. writes_code root m f token files are hm hf bytes (now h0) (now h1) (now h2) before
+    (c.store.ensures.alone t1 (subst IsDone (sym is) tt) (subst (λ (k : List ℕ). IsLone k (since h1 h2)) (sym first.same_token) parts.1)))

@@ -1,5 +1,8 @@
 use Rattle.std.proofs.Common.{ℕ, List, sym, subst}
-use Rattle.jl_folder.specs.State.{since}
+use Rattle.jl_folder.specs.State.{now, since}
+use Rattle.jl_claims.specs.Steps.{IsLone}
+use Rattle.jl_claims.proofs.Alone.{lone_parts}
+use Rattle.jl_store.specs.Checking.{IsDone}
 use Rattle.jl_entry.specs.Names.{code_of, IsTemp}
 use Rattle.jl_claims.specs.Touches.{TouchedByOther}
 use Rattle.jl_store.specs.Kinds.{UsesNames}
@@ -8,6 +11,7 @@ use Rattle.jl_store.proofs.SkipCauses.{skips_then, cleared_there}
 use Rattle.jl_store.specs.Doing.{IsClearing}
 use Rattle.jl_store.proofs.StorePaths.{clearing_puts}
 use Rattle.jl_store.proofs.CheckLemmas.{stores_then, stores_only}
+use Rattle.jl_store.proofs.CodeAlone.{replaces_code, leaves_replaced, comes_replaced}
 use Rattle.jl_store.proofs.checking.write_over.Goals as goal
 
 pub returns-in-Cleared-clause-stores : goal.returns-in-Cleared-clause-stores
@@ -37,3 +41,19 @@ returns-in-Fault-clause-skips g c = λ t is root m f hm hf are whole tidy all pr
 
 pub returns-in-NoMemory-clause-skips : goal.returns-in-NoMemory-clause-skips
 returns-in-NoMemory-clause-skips g c = λ t is root m f hm hf are whole tidy all pre. cc
+
+pub returns-in-Cleared-clause-alone : goal.returns-in-Cleared-clause-alone
+returns-in-Cleared-clause-alone g c = λ t lone root m f hm hf are tidy.
+    let token = g.F.Folder.token c.args.folder.now in
+    let files = c.args.files.now in
+    let bytes = c.args.bytes.now in
+    let h0 = g.F.Folder.history c.args.folder.now in
+    let h1 = g.F.Folder.history c.clear_entries.new.folder in
+    let h2 = g.F.Folder.history c.store.new.folder in
+    let first = c.clear_entries.ensures.does in
+    let t1 = first.tells t in
+    let parts = lone_parts token h0 h1 h2 (goes_does g.F.Folder.token g.F.Folder.told g.F.Folder.history g.F.Folder.opens g.F.Folder.faults (IsClearing files.folder) c.args.folder.now c.clear_entries.new.folder first t) (c.store.ensures.stores.goes t1) lone in
+    let before = c.clear_entries.ensures.alone t c.in-Cleared.is parts.0 root (m, f, hm, hf, are.0) tidy in
+    leaves_replaced c.store.result files bytes (now h0) (now h2) (comes_replaced c.store.result c.store.ensures.answer)
+    (λ is. replaces_code root m f token files are hm hf bytes (now h0) (now h1) (now h2) before
+    (c.store.ensures.alone t1 (subst IsDone (sym is) tt) (subst (λ (k : List ℕ). IsLone k (since h1 h2)) (sym first.same_token) parts.1)))

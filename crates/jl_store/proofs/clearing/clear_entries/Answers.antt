@@ -1,5 +1,13 @@
+use Rattle.std.proofs.Common.{◌≡◌, ◌∙◌, ℕ, List, false, ap, subst, sym}
+use Rattle.jl_folder.specs.declared.listing.Name.{Name}
+use Rattle.jl_folder.specs.State.{now, since, is_folder}
+use Rattle.jl_claims.specs.Steps.{IsLone}
+use Rattle.jl_claims.proofs.Alone.{lone_parts, waits_alone}
+use Rattle.jl_laws.specs.Tidy.{IsTidy}
+use Rattle.jl_store.specs.Alone.{HasNoFoldersOf}
 use Rattle.jl_store.specs.Doing.{IsClearing}
-use Rattle.jl_store.proofs.DoingLemmas.{does_waits, does_then, later_rose}
+use Rattle.jl_store.proofs.DoingLemmas.{does_waits, does_then, goes_does, later_rose}
+use Rattle.jl_store.proofs.Emptied.{keys_gone, function_gone, lists_alone, some_alone}
 use Rattle.jl_store.proofs.clearing.clear_entries.Goals as goal
 
 pub returns-in-Names-clause-does : goal.returns-in-Names-clause-does
@@ -19,3 +27,36 @@ returns-in-Failed-clause-does g c = let e = c.list.ensures in does_waits g.F.Fol
 
 pub returns-in-NoMemory-clause-does : goal.returns-in-NoMemory-clause-does
 returns-in-NoMemory-clause-does g c = let e = c.list.ensures in does_waits g.F.Folder.token g.F.Folder.told g.F.Folder.history g.F.Folder.opens g.F.Folder.faults (IsClearing c.args.function.now) c.args.folder.now c.list.new.self e.told e.token e.opens e.faults.later e.waits
+
+pub returns-in-Names-clause-alone : goal.returns-in-Names-clause-alone
+returns-in-Names-clause-alone g c = λ t is lone root fun tidy.
+    let token = g.F.Folder.token c.args.folder.now in
+    let path = c.args.function.now in
+    let h0 = g.F.Folder.history c.args.folder.now in
+    let h1 = g.F.Folder.history c.list.new.self in
+    let h2 = g.F.Folder.history c.clear_keys.new.folder in
+    let e = c.list.ensures in
+    let first = does_waits g.F.Folder.token g.F.Folder.told g.F.Folder.history g.F.Folder.opens g.F.Folder.faults (IsClearing path) c.args.folder.now c.list.new.self e.told e.token e.opens e.faults.later e.waits in
+    let second = c.clear_keys.ensures.does in
+    let t1 = e.told t in
+    let parts = lone_parts token h0 h1 h2 (goes_does g.F.Folder.token g.F.Folder.told g.F.Folder.history g.F.Folder.opens g.F.Folder.faults (IsClearing path) c.args.folder.now c.list.new.self first t) (goes_does g.F.Folder.token g.F.Folder.told g.F.Folder.history g.F.Folder.opens g.F.Folder.faults (IsClearing path) c.list.new.self c.clear_keys.new.folder second t1) lone in
+    let same : now h1 ≡ now h0 = waits_alone token h0 h1 (e.waits t) parts.0 in
+    let all = lists_alone token path c.in-Names.names h0 h1 (e.waits t) parts.0 (c.in-Names.ensures.names t) in
+    let none = c.clear_keys.ensures.alone t1 is (subst (λ (k : List ℕ). IsLone k (since h1 h2)) (sym e.token) parts.1) root fun (subst (IsTidy root) (sym same) tidy) in
+    keys_gone token root path h0 h2 fun tidy ((returns-in-Names-clause-does g c).moves t) lone c.in-Names.names all (subst (λ (ns : List Name). HasNoFoldersOf path ns (now h2)) c.as_slice.ensures none)
+
+pub returns-in-NoDir-clause-alone : goal.returns-in-NoDir-clause-alone
+returns-in-NoDir-clause-alone g c = λ t is lone root fun tidy.
+    let token = g.F.Folder.token c.args.folder.now in
+    let path = c.args.function.now in
+    let h0 = g.F.Folder.history c.args.folder.now in
+    let h1 = g.F.Folder.history c.list.new.self in
+    let waits = c.list.ensures.waits t in
+    let none = some_alone token h0 h1 (λ s. is_folder s path ≡ false) waits lone (c.in-NoDir.ensures.names t) in
+    function_gone token root path h0 h1 fun tidy ((returns-in-NoDir-clause-does g c).moves t) lone (ap (λ s. is_folder s path) (waits_alone token h0 h1 waits lone) ∙ none)
+
+pub returns-in-Failed-clause-alone : goal.returns-in-Failed-clause-alone
+returns-in-Failed-clause-alone g c = λ t is lone root fun tidy. cc
+
+pub returns-in-NoMemory-clause-alone : goal.returns-in-NoMemory-clause-alone
+returns-in-NoMemory-clause-alone g c = λ t is lone root fun tidy. cc

@@ -3,6 +3,8 @@ use Rattle.jl_text.specs.Paths.{PathView}
 use Rattle.jl_store.specs.Doing.{Does, IsMaking}
 use Rattle.jl_store.proofs.DoingLemmas.{does_none, does_then, does_as, goes_does, later_rose}
 use Rattle.jl_store.proofs.StoringLemmas.{making_prefix}
+use Rattle.jl_store.proofs.Emptied.{making_proper, has_folders}
+use Rattle.jl_store.proofs.LoneMoves.{part_proper}
 use Rattle.jl_store.proofs.FolderCauses.{there_first, there_next, there_skipped, there_last, step_as, ended_early}
 use Rattle.jl_store.proofs.folders.make_folders.Goals as goal
 
@@ -34,8 +36,20 @@ returns-in_default-make_step g c = record {
       (c.loop-i.invariant.1 t root)
       (λ tidy all store. step_as root _ _ _ _ _ _ _ _ c.loop-i.invariant.0.same_token c.in-Ok.ensures is (λ st. c.make_step.ensures.step (c.loop-i.invariant.0.tells t) root tidy all st) store)
       fun tidy all);
+  alone = λ t is. absurd (c.in_default-make_step.not-Made is);
 }
 
 pub returns-clause-folders : goal.returns-clause-folders
 returns-clause-folders g c = λ t root fun tidy all.
     there_last (g.F.Folder.token c.args.folder.now) root c.args.path.now c.loop-i.i (g.F.Folder.history c.args.folder.now) (g.F.Folder.history c.loop-i.folder) (omega (arith, c.loop-i-test.false, ap length c.parts-count.ensures.same)) (c.loop-i.invariant.1 t root) fun tidy all
+
+pub returns-clause-alone : goal.returns-clause-alone
+returns-clause-alone g c = λ t is lone root fun tidy.
+    let token = g.F.Folder.token c.args.folder.now in
+    let old = g.F.Folder.history c.args.folder.now in
+    let new = g.F.Folder.history c.loop-i.folder in
+    let path = c.args.path.now in
+    let moves = c.loop-i.invariant.0.moves t in
+    has_folders token root path old new fun tidy moves lone
+    (there_last token root path c.loop-i.i old new (omega (arith, c.loop-i-test.false, ap length c.parts-count.ensures.same)) (c.loop-i.invariant.1 t root) fun tidy
+    (part_proper token (IsMaking path) old new moves lone root (making_proper root path fun token)))

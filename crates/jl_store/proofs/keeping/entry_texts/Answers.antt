@@ -1,6 +1,5 @@
-use Rattle.std.proofs.Common.{◌≡◌, sym, ◌∙◌}
+use Rattle.std.proofs.Common.{sym}
 use Rattle.jl_value.specs.Form.{tree_of}
-use Rattle.jl_entry.specs.declared.names.EntryFile.{EntryFile}
 use Rattle.jl_entry.specs.declared.names.EntryFile.TheVariants.{Output, Metadata, Access}
 use Rattle.jl_store.proofs.Wholes.{output_whole, metadata_whole, access_whole}
 use Rattle.jl_store.proofs.keeping.entry_texts.Goals as goal

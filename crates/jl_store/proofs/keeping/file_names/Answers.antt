@@ -1,6 +1,6 @@
 use Rattle.std.proofs.Common.{subst}
 use Rattle.hex.specs.Hex.{encode_lower}
-use Rattle.jl_entry.specs.Names.{IsFinal, IsTemp, entry_of, root_of}
+use Rattle.jl_entry.specs.Names.{IsFinal, entry_of, root_of}
 use Rattle.jl_store.specs.Keeping.{entry_in, file_of}
 use Rattle.jl_store.proofs.keeping.file_names.Goals as goal
 

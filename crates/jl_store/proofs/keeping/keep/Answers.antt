@@ -1,4 +1,4 @@
-use Rattle.std.proofs.Common.{◌≡◌, ap, sym, subst}
+use Rattle.std.proofs.Common.{◌≡◌, ap, subst}
 use Rattle.hex.specs.Hex.{encode_lower}
 use Rattle.jl_folder.specs.State.{now}
 use Rattle.jl_value.specs.Form.{tree_of}

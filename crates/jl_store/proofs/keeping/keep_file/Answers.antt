@@ -1,4 +1,4 @@
-use Rattle.std.proofs.Common.{◌≡◌, sym, subst, ◌∙◌}
+use Rattle.std.proofs.Common.{sym, subst, ◌∙◌}
 use Rattle.jl_folder.specs.State.{now}
 use Rattle.jl_entry.specs.Names.{root_of, IsTemp}
 use Rattle.jl_entry.proofs.NameFacts.{final_not_temp}

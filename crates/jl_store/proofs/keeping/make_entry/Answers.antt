@@ -1,9 +1,8 @@
-use Rattle.std.proofs.Common.{◌≡◌, ◌⊎◌, ◌∷◌, [], true, sym, ap, subst, ◌∙◌}
+use Rattle.std.proofs.Common.{◌≡◌, ◌∷◌, [], true, sym, ap, subst, ◌∙◌}
 use Rattle.hex.specs.Hex.{encode_lower}
-use Rattle.jl_folder.specs.State.{is_folder, now, since}
+use Rattle.jl_folder.specs.State.{is_folder}
 use Rattle.jl_folder.specs.Calls.{Call, MakesDir}
 use Rattle.jl_entry.specs.Names.{root_of, below}
-use Rattle.jl_claims.specs.Touches.{TouchedByOther}
 use Rattle.jl_store.specs.Keeping.{entry_in, entry_path, function_path, Keeps}
 use Rattle.jl_store.proofs.EntryMade.{made_keeps, made_ready, made_alone}
 use Rattle.jl_store.proofs.KeepFacts.{nothing_keeps}
