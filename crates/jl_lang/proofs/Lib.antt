@@ -1,10 +1,4 @@
-pub mod SignLemmas
-pub mod NumberLemmas
-pub mod ReaderLemmas
-pub mod NameLemmas
-pub mod ShapeLemmas
-pub mod DefinitionLemmas
-pub mod LineLemmas
-pub mod RunLemmas
-pub mod OperationLemmas
 pub mod CallLemmas
+pub mod OperationLemmas
+pub mod Division
+pub mod Counts

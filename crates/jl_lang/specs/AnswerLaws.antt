@@ -1,81 +1,80 @@
 -- The law of the answers: a value is proper, nests 64 deep at most and has a text of at most 2 ^ 20 bytes.
-use Rattle.std.specs.Prelude.{◌≡◌, ◌≤◌, ◌<◌, ◌^◌, ℕ, ◌+◌, Bool, true, false, ◌&&◌, ◌||◌, not, nat_lt, nat_le, if◌then◌else◌, ℤ, pos, negsuc, ◌+ℤ◌, ◌*ℤ◌, List, [], ◌∷◌, ◌++◌, length, Option, Some, None, option_map, Result, Ok, Err, refl}
-use Rattle.std.proofs.Common.{arith, sym, true≢false}
-use Rattle.std.specs.Str.{bytes_eq}
-use Rattle.std.proofs.lemmas.Str.{IsUtf8-append}
-use Rattle.jl_value.specs.Tree.{Tree, whole, text, list, numbers, Items, no_items, item, nesting, members_of}
+use Rattle.std.specs.Prelude.{int_lt, ◌≡◌, ◌≤◌, ◌<◌, ◌≤ℤ◌, ◌^◌, ℕ, zero, suc, ◌+◌, ◌-◌, Bool, true, false, ◌&&◌, ◌||◌, not, nat_lt, nat_le, nat_eq, if◌then◌else◌, unsigned_abs, ℤ, pos, negsuc, ◌+ℤ◌, List, [], ◌∷◌, ◌++◌, length, count_by, Option, Some, None, option_map, Result, Ok, Err, refl}
+use lib.IntN.{◌-ℤ◌, ◌*ℤ◌, neg_ℤ}
+use Rattle.std.proofs.Common.{arith, sym, true≢false, subst, lit<}
+use Rattle.std.proofs.lemmas.Int.{ints}
+use Rattle.std.specs.Str.{bytes_eq, is_utf8, IsUtf8}
+use Rattle.std.specs.List.{list_all}
+use Rattle.std.specs.declared.cmp.Ordering.{Ordering}
+use Rattle.std.proofs.lemmas.Str.{IsUtf8-append, IsUtf8-from_is_utf8}
+use Rattle.jl_value.specs.Tree.{Tree, null, truth, whole, text, list, table, numbers, Items, no_items, item, Members, no_members, member, nesting, members_of}
 use Rattle.jl_value.specs.Canonical.{text_of}
 use Rattle.jl_value.specs.Key.{args_tree}
 use Rattle.jl_value.specs.Proper.{IsWhole, AreWhole, IsProper, AreProper, HasProper}
 use Rattle.jl_value.specs.Library.{Answer, value, error, IsWithin}
 use Rattle.jl_value.specs.declared.library.TaskError.{TaskError}
-use Rattle.jl_value.specs.declared.library.TaskError.TheVariants.{NoArgument, ExtraArgument, Overflow, TooLong, TooDeep}
-use Rattle.jl_lang.specs.Words.{is_number, number_behind, has_leading_zero, is_identifier}
-use Rattle.jl_lang.specs.Signs.{is_digit}
-use Rattle.std.specs.List.{list_all}
-use Rattle.jl_value.specs.declared.library.ModuleFaultKind.{ModuleFaultKind}
-use Rattle.jl_value.specs.declared.library.ModuleFaultKind.TheVariants.{BadName, TooDeep as TooHigh}
-use Rattle.jl_lang.specs.Grammar.{Expression, name, number, plus, times, Operator, adding, multiplying, operator_of, operand_of, joined, with_operand, with_first, read_from, expression_of, Heading, Definition, Reading, bad, good, with_body, with_heading, heading_of, definition_in, height, has_repeat, is_named}
-use Rattle.jl_lang.specs.Meaning.{Ran, done, failed, then', counted, operated, weight, is_whole, whole_within, both_items, sum_of, product_of, argument, named, value_of, limited, has_arguments, has_parameters, answered, answer_of}
+use Rattle.jl_value.specs.declared.library.TaskError.TheVariants.{NoArgument, ExtraArgument, Overflow, ZeroDivisor, BadKind, BadIndex, TooLong, TooDeep}
+use Rattle.jl_value.specs.Same.{tree_eq}
+use Rattle.jl_syntax.specs.declared.operators.Operator.{Operator}
+use Rattle.jl_syntax.specs.declared.operators.Operator.TheVariants.{Or, And, Equal, Unequal, Less, AtMost, Greater, AtLeast, Plus, Minus, Times, Quotient, Remainder}
+use Rattle.jl_syntax.specs.declared.operators.Prefix.{Prefix}
+use Rattle.jl_syntax.specs.declared.operators.Prefix.TheVariants.{Not, Negative}
+use Rattle.jl_syntax.specs.declared.operators.Function.{Function}
+use Rattle.jl_syntax.specs.declared.operators.Function.TheVariants.{Len, Sum, Min, Max, Range, Array}
+use Rattle.jl_syntax.specs.Signs.{is_digit}
+use Rattle.jl_syntax.specs.Words.{is_number, number_behind, has_leading_zero, true_word, false_word, none_word, if_text, quoted_in, text_in, named_constant, constant_of}
+use Rattle.jl_syntax.specs.Trees.{Expression, tall, leaf, bracketed, before, between, choice, index, call, span, list as listed, each, filtered, table as tabled}
+use Rattle.jl_syntax.specs.Headings.{Definition, Reading, bad, good, definition_in}
+use Rattle.jl_lang.specs.declared.settled.Settled.{Settled}
+use Rattle.jl_lang.specs.declared.settled.Settled.TheVariants.{Known, Open, Wrong, Both}
+use Rattle.jl_lang.specs.Steps.{Ran, done, failed, then', counted, operated, weight}
+use Rattle.jl_lang.specs.Arithmetic.{is_whole, within_64, whole_if, whole_within, divided, floor_quotient, floor_rest}
+use Rattle.jl_lang.specs.Operations.{both_items, sum_of, compared, holds, tested, on_wholes, operation, prefixed, place_of, items_length, item_at, number_at, member_of, at_place, element_of}
+use Rattle.jl_lang.specs.Calls.{begins_character, members_length, length_of, sum_behind, numbers_sum, with_whole, items_sum, sum_of_all, better, numbers_best, items_best, first_best, first_number, best_of, array_behind, array_of, items_from, members_to, range_of, call_value}
+use Rattle.jl_lang.specs.Meaning.{argument, named, word_value, settle, truth_counted, settled, again, chosen, value_of, limited, has_arguments, has_parameters, answered, called, answer_of}
 
--- ---- the numbers of an expression have 64 bits
-
-abbrev AreSmall : Expression → Type 0
-AreSmall (name n) = Unit {0}
-AreSmall (number n) = n < 2 ^ 63
-AreSmall (plus a b) = AreSmall a × AreSmall b
-AreSmall (times a b) = AreSmall a × AreSmall b
-
-abbrev IfSmall : Option Expression → Type 0
-IfSmall None = Unit {0}
-IfSmall (Some e) = AreSmall e
+-- ---- what a word writes is proper
 
 last_of : (a b : Bool) → (a && b) ≡ true → b ≡ true
 last_of true b e = e
 last_of false b e = absurd (true≢false (sym e))
 
-small_if : (b : Bool) (n : ℕ) → (b ≡ true → n < 2 ^ 63) → IfSmall (option_map number (if b then Some n else None))
-small_if true n h = h refl
-small_if false n h = tt
-
 at_most : (n : ℕ) → nat_le n 9223372036854775807 ≡ true → n < 2 ^ 63
 at_most n h = grind arith
-
-name_if : (b : Bool) (w : List ℕ) (o : Option Expression) → IfSmall o → IfSmall (if b then Some (name w) else o)
-name_if true w o h = tt
-name_if false w o h = h
 
 number_limit : (w : List ℕ) → is_number w ≡ true → nat_le (number_behind 0 w) 9223372036854775807 ≡ true
 number_limit w h = last_of (not (has_leading_zero w)) (nat_le (number_behind 0 w) 9223372036854775807) (last_of (list_all is_digit w) (not (has_leading_zero w) && nat_le (number_behind 0 w) 9223372036854775807) (last_of (nat_lt 0 (length w)) (list_all is_digit w && (not (has_leading_zero w) && nat_le (number_behind 0 w) 9223372036854775807)) h))
 
-operand_small : (w : List ℕ) → IfSmall (operand_of w)
-operand_small w = name_if (is_identifier w) w _ (small_if (is_number w) (number_behind 0 w) (λ h. at_most (number_behind 0 w) (number_limit w h)))
+abbrev IfThere : Option Tree → Type 0
+IfThere None = Unit {0}
+IfThere (Some v) = IsProper v
 
-joined_small : (sum : Option Expression) (term : Expression) → IfSmall sum → AreSmall term → AreSmall (joined plus sum term)
-joined_small None term h k = k
-joined_small (Some sum) term h k = (h, k)
+there_if : (b : Bool) (v : Tree) (o : Option Tree) → (b ≡ true → IsProper v) → IfThere o → IfThere (if b then Some v else o)
+there_if true v o h k = h refl
+there_if false v o h k = k
 
-with_small : (o : Option Operator) (x : Option Expression) (f g : Expression → Option Expression) → IfSmall x → ((e : Expression) → AreSmall e → IfSmall (f e)) → ((e : Expression) → AreSmall e → IfSmall (g e)) → IfSmall (with_operand o x f g)
-with_small None x f g h p q = tt
-with_small (Some o) None f g h p q = tt
-with_small (Some adding) (Some e) f g h p q = p e h
-with_small (Some multiplying) (Some e) f g h p q = q e h
+abbrev IfText : Option (List ℕ) → Type 0
+IfText None = Unit {0}
+IfText (Some s) = IsUtf8 s
 
-from_small : (sum : Option Expression) (term : Expression) (ws : List (List ℕ)) → IfSmall sum → AreSmall term → IfSmall (read_from operand_of plus times sum term ws)
-from_small sum term [] h k = joined_small sum term h k
-from_small sum term (op ∷ []) h k = tt
-from_small sum term (op ∷ w ∷ ws) h k =
-    with_small (operator_of op) (operand_of w) _ _ (operand_small w)
-    (λ e small. from_small (Some (joined plus sum term)) e ws (joined_small sum term h k) small)
-    (λ e small. from_small sum (times term e) ws h (k, small))
+text_if : (b : Bool) (s : List ℕ) → (b ≡ true → IsUtf8 s) → IfText (if b then Some s else None)
+text_if true s h = h refl
+text_if false s h = tt
 
-first_small : (x : Option Expression) (f : Expression → Option Expression) → IfSmall x → ((e : Expression) → AreSmall e → IfSmall (f e)) → IfSmall (with_first x f)
-first_small None f h p = tt
-first_small (Some e) f h p = p e h
+text_proper : (o : Option (List ℕ)) → IfText (if_text o)
+text_proper None = tt
+text_proper (Some s) = text_if (is_utf8 s) s (IsUtf8-from_is_utf8 s)
 
-expression_small : (ws : List (List ℕ)) → IfSmall (expression_of ws)
-expression_small [] = tt
-expression_small (w ∷ ws) = first_small (operand_of w) _ (operand_small w) (λ e small. from_small None e ws tt small)
+as_text : (o : Option (List ℕ)) → IfText o → IfThere (option_map text o)
+as_text None h = tt
+as_text (Some s) h = h
+
+constant_proper : (w : List ℕ) → IfThere (constant_of w)
+constant_proper w =
+    there_if (is_number w) (whole (pos (number_behind 0 w))) (named_constant w) (λ h. at_most (number_behind 0 w) (number_limit w h))
+    (there_if (bytes_eq w true_word) (truth true) _ (λ h. tt)
+    (there_if (bytes_eq w false_word) (truth false) _ (λ h. tt)
+    (there_if (bytes_eq w none_word) null _ (λ h. tt) (as_text (text_in w) (text_proper (quoted_in w))))))
 
 -- ---- values are proper
 
@@ -86,10 +85,6 @@ IsDone (failed e) = Unit {0}
 abbrev IsMade : Result Tree TaskError → Type 0
 IsMade (Ok v) = IsProper v
 IsMade (Err e) = Unit {0}
-
-abbrev IfThere : Option Tree → Type 0
-IfThere None = Unit {0}
-IfThere (Some v) = IsProper v
 
 counted_if : (b : Bool) (v : Tree) (n : ℕ) → IsProper v → IsDone (if b then failed TooLong else done v n)
 counted_if true v n h = tt
@@ -110,12 +105,19 @@ whole_by : (z : ℤ) → is_whole z ≡ true → IsWhole z
 whole_by (pos n) h = grind arith
 whole_by (negsuc n) h = grind arith
 
-whole_if : (b : Bool) (z : ℤ) → (b ≡ true → IsWhole z) → IsMade (if b then Ok (whole z) else Err Overflow)
-whole_if true z h = h refl
-whole_if false z h = tt
+whole_if_proper : (b : Bool) (z : ℤ) → (b ≡ true → IsWhole z) → IsMade (whole_if (if b then Some z else None))
+whole_if_proper true z h = h refl
+whole_if_proper false z h = tt
 
 within_made : (z : ℤ) → IsMade (whole_within z)
-within_made z = whole_if (is_whole z) z (whole_by z)
+within_made z = whole_if_proper (is_whole z) z (whole_by z)
+
+made_if : (b : Bool) (e : TaskError) (r : Result Tree TaskError) → IsMade r → IsMade (if b then Err e else r)
+made_if true e r h = tt
+made_if false e r h = h
+
+divided_made : (f : ℤ → ℤ → ℤ) (a b : ℤ) → IsMade (divided f a b)
+divided_made f a b = made_if (nat_eq (unsigned_abs b) 0) ZeroDivisor (whole_within (f a b)) (within_made (f a b))
 
 items_proper : (a b : Items) → AreProper a → AreProper b → AreProper (both_items a b)
 items_proper no_items b h k = k
@@ -132,27 +134,209 @@ sum_proper (list a) (list b) h k = items_proper a b h k
 sum_proper (numbers a) (numbers b) h k = numbers_proper a b h k
 sum_proper _ _ h k = tt
 
-product_proper : (a b : Tree) → IsProper a → IsProper b → IsMade (product_of a b)
-product_proper (whole a) (whole b) h k = within_made (a *ℤ b)
-product_proper _ _ h k = tt
+tested_made : (f : Ordering → Bool) (o : Option Ordering) → IsMade (tested f o)
+tested_made f None = tt
+tested_made f (Some o) = tt
 
-there_if : (b : Bool) (v : Tree) (o : Option Tree) → IsProper v → IfThere o → IfThere (if b then Some v else o)
-there_if true v o h k = h
-there_if false v o h k = k
+wholes_made : (f : ℤ → ℤ → Result Tree TaskError) (v w : Tree) → ((a b : ℤ) → IsMade (f a b)) → IsMade (on_wholes f v w)
+wholes_made f (whole a) (whole b) h = h a b
+wholes_made f _ _ h = tt
+
+operation_proper : (o : Operator) (v w : Tree) → IsProper v → IsProper w → IsMade (operation o v w)
+operation_proper Or v w h k = tt
+operation_proper And v w h k = tt
+operation_proper Equal v w h k = tt
+operation_proper Unequal v w h k = tt
+operation_proper Less v w h k = tested_made (holds true false false) (compared v w)
+operation_proper AtMost v w h k = tested_made (holds true true false) (compared v w)
+operation_proper Greater v w h k = tested_made (holds false false true) (compared v w)
+operation_proper AtLeast v w h k = tested_made (holds false true true) (compared v w)
+operation_proper Plus v w h k = sum_proper v w h k
+operation_proper Minus v w h k = wholes_made (λ a b. whole_within (a -ℤ b)) v w (λ a b. within_made (a -ℤ b))
+operation_proper Times v w h k = wholes_made (λ a b. whole_within (a *ℤ b)) v w (λ a b. within_made (a *ℤ b))
+operation_proper Quotient v w h k = wholes_made (divided floor_quotient) v w (divided_made floor_quotient)
+operation_proper Remainder v w h k = wholes_made (divided floor_rest) v w (divided_made floor_rest)
+
+prefixed_proper : (p : Prefix) (v : Tree) → IsMade (prefixed p v)
+prefixed_proper Not (truth b) = tt
+prefixed_proper Negative (whole z) = within_made (neg_ℤ z)
+prefixed_proper _ _ = tt
+
+item_proper : (ts : Items) (n : ℕ) → AreProper ts → IsMade (item_at ts n)
+item_proper no_items n h = tt
+item_proper (item t ts) zero h = h.0
+item_proper (item t ts) (suc n) h = item_proper ts n h.1
+
+number_proper : (zs : List ℤ) (n : ℕ) → AreWhole zs → IsMade (number_at zs n)
+number_proper [] n h = tt
+number_proper (z ∷ zs) zero h = h.0
+number_proper (z ∷ zs) (suc n) h = number_proper zs n h.1
+
+found_made : (b : Bool) (v : Tree) (r : Result Tree TaskError) → IsProper v → IsMade r → IsMade (if b then Ok v else r)
+found_made true v r h k = h
+found_made false v r h k = k
+
+member_proper : (k : List ℕ) (ms : Members) → HasProper ms → IsMade (member_of k ms)
+member_proper k no_members h = tt
+member_proper k (member l t ms) h = found_made (bytes_eq k l) t (member_of k ms) h.1 (member_proper k ms h.2)
+
+place_made : (f : ℕ → Result Tree TaskError) (o : Option ℕ) → ((n : ℕ) → IsMade (f n)) → IsMade (at_place f o)
+place_made f None h = tt
+place_made f (Some n) h = h n
+
+element_proper : (v w : Tree) → IsProper v → IsMade (element_of v w)
+element_proper (list ts) (whole z) h = place_made (item_at ts) (place_of (items_length ts) z) (λ n. item_proper ts n h)
+element_proper (numbers zs) (whole z) h = place_made (number_at zs) (place_of (length zs) z) (λ n. number_proper zs n h)
+element_proper (table ms) (text k) h = member_proper k ms h.1
+element_proper _ _ h = tt
+
+-- ---- what functions make is proper
+
+behind_made : (o : Option ℤ) (rest : ℤ → Result Tree TaskError) → ((z : ℤ) → o ≡ Some z → IsMade (rest z)) → IsMade (sum_behind o rest)
+behind_made None rest h = tt
+behind_made (Some z) rest h = h z refl
+
+within_is : (b : Bool) (z y : ℤ) → (b ≡ true → IsWhole z) → (if b then Some z else None) ≡ Some y → IsWhole y
+within_is true z y h e = let same : z ≡ y = cc in subst IsWhole same (h refl)
+within_is false z y h e = absurd (cc)
+
+whole_in : (z y : ℤ) → within_64 z ≡ Some y → IsWhole y
+whole_in z y e = within_is (is_whole z) z y (whole_by z) e
+
+numbers_sum_made : (n : ℤ) (zs : List ℤ) → IsWhole n → IsMade (numbers_sum n zs)
+numbers_sum_made n [] h = h
+numbers_sum_made n (z ∷ zs) h = behind_made (within_64 (n +ℤ z)) _ (λ m e. numbers_sum_made m zs (whole_in (n +ℤ z) m e))
+
+whole_made : (t : Tree) (rest : ℤ → Result Tree TaskError) → IsProper t → ((z : ℤ) → IsWhole z → IsMade (rest z)) → IsMade (with_whole t rest)
+whole_made (whole z) rest h k = k z h
+whole_made _ rest h k = tt
+
+items_sum_made : (n : ℤ) (ts : Items) → IsWhole n → AreProper ts → IsMade (items_sum n ts)
+items_sum_made n no_items h k = h
+items_sum_made n (item t ts) h k = whole_made t _ k.0 (λ z w. behind_made (within_64 (n +ℤ z)) _ (λ m e. items_sum_made m ts (whole_in (n +ℤ z) m e) k.1))
+
+better_if : (b : Bool) (x y : ℤ) → IsWhole x → IsWhole y → IsWhole (if b then x else y)
+better_if true x y h k = h
+better_if false x y h k = k
+
+better_whole : (least : Bool) (x y : ℤ) → IsWhole x → IsWhole y → IsWhole (better least x y)
+better_whole true x y h k = better_if (int_lt y x) y x k h
+better_whole false x y h k = better_if (int_lt x y) y x k h
+
+numbers_best_made : (least : Bool) (n : ℤ) (zs : List ℤ) → IsWhole n → AreWhole zs → IsMade (numbers_best least n zs)
+numbers_best_made least n [] h k = h
+numbers_best_made least n (z ∷ zs) h k = numbers_best_made least (better least n z) zs (better_whole least n z h k.0) k.1
+
+items_best_made : (least : Bool) (n : ℤ) (ts : Items) → IsWhole n → AreProper ts → IsMade (items_best least n ts)
+items_best_made least n no_items h k = h
+items_best_made least n (item t ts) h k = whole_made t _ k.0 (λ z w. items_best_made least (better least n z) ts (better_whole least n z h w) k.1)
+
+best_made : (least : Bool) (v : Tree) → IsProper v → IsMade (best_of least v)
+best_made least (list no_items) h = tt
+best_made least (list (item t ts)) h = whole_made t _ h.0 (λ z w. items_best_made least z ts w h.1)
+best_made least (numbers []) h = tt
+best_made least (numbers (z ∷ zs)) h = numbers_best_made least z zs h.0 h.1
+best_made least _ h = tt
+
+array_made : (zs : List ℤ) (ts : Items) → AreWhole zs → AreProper ts → IsMade (array_behind zs ts)
+array_made zs no_items h k = h
+array_made zs (item t ts) h k = whole_made t _ k.0 (λ z w. array_made (zs ++ z ∷ []) ts (numbers_proper zs (z ∷ []) h (w, tt)) k.1)
+
+pub whole_bounds : (z : ℤ) → IsWhole z → (negsuc 9223372036854775807 ≤ℤ z) × (z ≤ℤ pos 9223372036854775807)
+whole_bounds (pos n) h = (omega (arith, ints), omega (arith, ints))
+whole_bounds (negsuc n) h = (omega (arith, ints), omega (arith, ints))
+
+whole_from : (z : ℤ) → negsuc 9223372036854775807 ≤ℤ z → z ≤ℤ pos 9223372036854775807 → IsWhole z
+whole_from (pos n) h k = omega (arith, ints)
+whole_from (negsuc n) h k = omega (arith, ints)
+
+step_whole : (z : ℤ) (n : ℕ) → IsWhole z → (z +ℤ pos (suc n)) ≤ℤ pos 9223372036854775808 → (0 < n → IsWhole (z +ℤ pos 1)) × (((z +ℤ pos 1) +ℤ pos n) ≤ℤ pos 9223372036854775808)
+step_whole z n h k = let b = whole_bounds z h in (λ some. whole_from (z +ℤ pos 1) (omega (arith, ints)) (omega (arith, ints)), omega (arith, ints))
+
+from_proper : (z : ℤ) (n : ℕ) → (0 < n → IsWhole z) → (z +ℤ pos n) ≤ℤ pos 9223372036854775808 → AreProper (items_from z n)
+from_proper z zero h k = tt
+from_proper z (suc n) h k = let here = h (omega arith) in let next = step_whole z n here k in (here, from_proper (z +ℤ pos 1) n next.0 next.1)
+
+range_end_by : (a b d : ℤ) → (b -ℤ a) ≡ d → IsWhole a → IsWhole b → (a +ℤ pos (members_to d)) ≤ℤ pos 9223372036854775808
+range_end_by a b (pos n) e h k = let x = whole_bounds b k in omega (arith, ints)
+range_end_by a b (negsuc n) e h k = let x = whole_bounds a h in omega (arith, ints)
+
+range_end : (a b : ℤ) → IsWhole a → IsWhole b → (a +ℤ pos (members_to (b -ℤ a))) ≤ℤ pos 9223372036854775808
+range_end a b h k = range_end_by a b (b -ℤ a) refl h k
+
+range_proper : (v w : Tree) → IsProper v → IsProper w → IsMade (range_of v w)
+range_proper (whole a) (whole b) h k = from_proper a (members_to (b -ℤ a)) (λ some. h) (range_end a b h k)
+range_proper _ _ h k = tt
+
+length_made : (v : Tree) → IsMade (length_of v)
+length_made (text s) = within_made (pos (count_by begins_character s))
+length_made (list ts) = within_made (pos (items_length ts))
+length_made (table ms) = within_made (pos (members_length ms))
+length_made (numbers zs) = within_made (pos (length zs))
+length_made _ = tt
+
+sum_made : (v : Tree) → IsProper v → IsMade (sum_of_all v)
+sum_made (list ts) h = items_sum_made (pos 0) ts (lit< tt) h
+sum_made (numbers zs) h = numbers_sum_made (pos 0) zs (lit< tt)
+sum_made _ h = tt
+
+array_of_made : (v : Tree) → IsProper v → IsMade (array_of v)
+array_of_made (list ts) h = array_made [] ts tt h
+array_of_made (numbers zs) h = h
+array_of_made _ h = tt
+
+call_proper : (f : Function) (v : Tree) → IsProper v → IsMade (call_value f v)
+call_proper Len v h = length_made v
+call_proper Sum v h = sum_made v h
+call_proper Min v h = best_made true v h
+call_proper Max v h = best_made false v h
+call_proper Range v h = range_proper (whole (pos 0)) v (lit< tt) h
+call_proper Array v h = array_of_made v h
 
 argument_proper : (n : List ℕ) (ps : List (List ℕ × Tree)) → HasProper (members_of ps) → IfThere (argument n ps)
 argument_proper n [] h = tt
-argument_proper n (p ∷ ps) h = there_if (bytes_eq n p.0) p.1 (argument n ps) h.1 (argument_proper n ps h.2)
+argument_proper n (p ∷ ps) h = there_if (bytes_eq n p.0) p.1 (argument n ps) (λ e. h.1) (argument_proper n ps h.2)
 
 named_proper : (n : ℕ) (o : Option Tree) → IfThere o → IsDone (named n o)
 named_proper n None h = tt
 named_proper n (Some v) h = counted_proper n v h
 
-value_proper : (ps : List (List ℕ × Tree)) (e : Expression) (n : ℕ) → HasProper (members_of ps) → AreSmall e → IsDone (value_of ps e n)
-value_proper ps (name w) n h k = named_proper n (argument w ps) (argument_proper w ps h)
-value_proper ps (number i) n h k = counted_proper n (whole (pos i)) k
-value_proper ps (plus a b) n h k = then_proper (value_of ps a n) _ (value_proper ps a n h k.0) (λ v m proper. then_proper (value_of ps b m) _ (value_proper ps b m h k.1) (λ w j also. operated_proper j (sum_of v w) (sum_proper v w proper also)))
-value_proper ps (times a b) n h k = then_proper (value_of ps a n) _ (value_proper ps a n h k.0) (λ v m proper. then_proper (value_of ps b m) _ (value_proper ps b m h k.1) (λ w j also. operated_proper j (product_of v w) (product_proper v w proper also)))
+word_proper : (ps : List (List ℕ × Tree)) (w : List ℕ) (o : Option Tree) (n : ℕ) → HasProper (members_of ps) → IfThere o → IsDone (word_value ps w o n)
+word_proper ps w (Some v) n h k = counted_proper n v k
+word_proper ps w None n h k = named_proper n (argument w ps) (argument_proper w ps h)
+
+truth_proper : (v : Tree) (n : ℕ) → IsDone (truth_counted v n)
+truth_proper (truth b) n = counted_proper n (truth b) tt
+truth_proper _ n = tt
+
+settled_proper : (o : Operator) (v : Tree) (s : Settled) (n : ℕ) (right : ℕ → Ran) → IsProper v → ((m : ℕ) → IsDone (right m)) → IsDone (settled o v s n right)
+settled_proper o v (Known b) n right h k = counted_proper n (truth b) tt
+settled_proper o v Open n right h k = then_proper (right n) truth_counted (k n) (λ w m proper. truth_proper w m)
+settled_proper o v Wrong n right h k = tt
+settled_proper o v Both n right h k = then_proper (right n) _ (k n) (λ w m proper. operated_proper m (operation o v w) (operation_proper o v w h proper))
+
+again_proper : (r : Ran) → IsDone r → IsDone (again r)
+again_proper r h = then_proper r _ h (λ v n proper. counted_proper n v proper)
+
+chosen_proper : (v : Tree) (n : ℕ) (first last : ℕ → Ran) → ((m : ℕ) → IsDone (first m)) → ((m : ℕ) → IsDone (last m)) → IsDone (chosen v n first last)
+chosen_proper (truth true) n first last h k = again_proper (first n) (h n)
+chosen_proper (truth false) n first last h k = again_proper (last n) (k n)
+chosen_proper _ n first last h k = tt
+
+value_proper : (ps : List (List ℕ × Tree)) (e : Expression) (n : ℕ) → HasProper (members_of ps) → IsDone (value_of ps e n)
+value_proper ps tall n h = tt
+value_proper ps (leaf w) n h = word_proper ps w (constant_of w) n h (constant_proper w)
+value_proper ps (bracketed e) n h = value_proper ps e n h
+value_proper ps (before p e) n h = then_proper (value_of ps e n) _ (value_proper ps e n h) (λ v m proper. operated_proper m (prefixed p v) (prefixed_proper p v))
+value_proper ps (between o a b) n h = then_proper (value_of ps a n) _ (value_proper ps a n h) (λ v m proper. settled_proper o v (settle o v) m (value_of ps b) proper (λ k. value_proper ps b k h))
+value_proper ps (choice a c b) n h = then_proper (value_of ps c n) _ (value_proper ps c n h) (λ v m proper. chosen_proper v m (value_of ps a) (value_of ps b) (λ k. value_proper ps a k h) (λ k. value_proper ps b k h))
+value_proper ps (index a i) n h = then_proper (value_of ps a n) _ (value_proper ps a n h) (λ v m proper. then_proper (value_of ps i m) _ (value_proper ps i m h) (λ w k also. operated_proper k (element_of v w) (element_proper v w proper)))
+value_proper ps (call f e) n h = then_proper (value_of ps e n) _ (value_proper ps e n h) (λ v m proper. operated_proper m (call_value f v) (call_proper f v proper))
+value_proper ps (span a b) n h = then_proper (value_of ps a n) _ (value_proper ps a n h) (λ v m proper. then_proper (value_of ps b m) _ (value_proper ps b m h) (λ w k also. operated_proper k (range_of v w) (range_proper v w proper also)))
+value_proper ps (listed ms) n h = tt
+value_proper ps (each e x a) n h = tt
+value_proper ps (filtered e x a c) n h = tt
+value_proper ps (tabled es) n h = tt
 
 -- ---- the limits
 
@@ -173,26 +357,9 @@ called_if true b r h = tt
 called_if false true r h = tt
 called_if false false r h = h
 
-abbrev IfGood : Reading → Type 0
-IfGood (bad k) = Unit {0}
-IfGood (good d) = AreSmall d.body
-
-judged_if : (a b : Bool) (k l : ModuleFaultKind) (d : Definition) → AreSmall d.body → IfGood (if a then bad k else (if b then bad l else good d))
-judged_if true b k l d h = tt
-judged_if false true k l d h = tt
-judged_if false false k l d h = h
-
-body_small : (h : Heading) (o : Option Expression) → IfSmall o → IfGood (with_body h o)
-body_small h None s = tt
-body_small h (Some e) s = judged_if (nat_lt 128 (height e)) (has_repeat [] h.parameters || not (is_named h.parameters e)) TooHigh BadName (record { name = h.name; parameters = h.parameters; body = e }) s
-
-heading_small : (o : Option Heading) → IfGood (with_heading o)
-heading_small None = tt
-heading_small (Some h) = body_small h (expression_of h.body) (expression_small h.body)
-
-answered_within : (r : Reading) (ps : List (List ℕ × Tree)) → IfGood r → HasProper (members_of ps) → IsWithin (answered r ps)
-answered_within (bad k) ps g h = tt
-answered_within (good d) ps g h = called_if (not (has_arguments d.parameters ps)) (not (has_parameters d.parameters ps)) _ (limited_within (value_of ps d.body 0) (value_proper ps d.body 0 h g))
+answered_within : (r : Reading) (ps : List (List ℕ × Tree)) → HasProper (members_of ps) → IsWithin (answered r ps)
+answered_within (bad k) ps h = tt
+answered_within (good d) ps h = called_if (not (has_arguments d.parameters ps)) (not (has_parameters d.parameters ps)) _ (limited_within (value_of ps d.body 0) (value_proper ps d.body 0 h))
 
 pub answers_within : (c : List ℕ) (ps : List (List ℕ × Tree)) → IsProper (args_tree ps) → IsWithin (answer_of c ps)
-answers_within c ps h = answered_within (definition_in c) ps (heading_small (heading_of c)) h.1
+answers_within c ps h = answered_within (definition_in c) ps h.1

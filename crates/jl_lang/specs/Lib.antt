@@ -1,12 +1,7 @@
-pub mod Signs
-pub mod Words
-pub mod Grammar
-pub mod Shapes
-pub mod Lines
-pub mod Modules
-pub mod Checks
+pub mod Steps
+pub mod Arithmetic
+pub mod Operations
+pub mod Calls
 pub mod Meaning
-pub mod Runs
 pub mod Outcomes
-pub mod ModuleLaws
 pub mod AnswerLaws

@@ -1,75 +1,22 @@
 -- What a definition answers on arguments, and the count of its steps.
-use Rattle.std.specs.Prelude.{ℕ, ◌+◌, ◌^◌, Bool, not, nat_lt, if◌then◌else◌, ℤ, pos, negsuc, ◌+ℤ◌, ◌*ℤ◌, List, [], ◌∷◌, ◌++◌, length, Option, Some, None, Result, Ok, Err}
+use Rattle.std.specs.Prelude.{ℕ, ◌+◌, Bool, true, false, not, nat_lt, if◌then◌else◌, List, [], ◌∷◌, length, Option, Some, None, Result, Ok, Err}
 use Rattle.std.specs.List.{list_any, list_all}
 use Rattle.std.specs.Str.{bytes_eq}
 use Rattle.jl_value.specs.Tree.{Tree, null, truth, whole, text, list, table, numbers, Items, no_items, item, Members, no_members, member, nesting}
 use Rattle.jl_value.specs.Canonical.{text_of}
 use Rattle.jl_value.specs.Library.{Answer, value, error}
 use Rattle.jl_value.specs.declared.library.TaskError.{TaskError}
-use Rattle.jl_value.specs.declared.library.TaskError.TheVariants.{NoArgument, ExtraArgument, BadKind, Overflow, TooLong, TooDeep}
-use Rattle.jl_lang.specs.Grammar.{Expression, name, number, plus, times, Definition, Reading, bad, good, definition_in}
-
--- what a value counts
-abbrev mutual
-  pub weight : Tree → ℕ
-  weight null = 1
-  weight (truth b) = 1
-  weight (whole z) = 1
-  weight (text s) = 1 + length s
-  weight (list ts) = 1 + items_weight ts
-  weight (table ms) = 1 + members_weight ms
-  weight (numbers zs) = 1 + length zs
-
-  pub items_weight : Items → ℕ
-  items_weight no_items = 0
-  items_weight (item t ts) = weight t + items_weight ts
-
-  pub members_weight : Members → ℕ
-  members_weight no_members = 0
-  members_weight (member k t ms) = length k + (weight t + members_weight ms)
-
--- a value with the count of steps so far, or the first error
-pub data Ran : Type 0 where
-  done : Tree → ℕ → Ran
-  failed : TaskError → Ran
-
--- goes on where there is no error
-abbrev pub then' : Ran → (Tree → ℕ → Ran) → Ran
-then' (done v n) next = next v n
-then' (failed e) next = failed e
-
--- a value to be counted, which may not pass 2 ^ 24
-abbrev pub counted : ℕ → Tree → Ran
-counted n v = if nat_lt 16777216 (n + weight v) then failed TooLong else done v (n + weight v)
-
-abbrev pub operated : ℕ → Result Tree TaskError → Ran
-operated n (Ok v) = counted n v
-operated n (Err e) = failed e
-
--- whether a number has 64 bits
-abbrev pub is_whole : ℤ → Bool
-is_whole (pos n) = nat_lt n (2 ^ 63)
-is_whole (negsuc n) = nat_lt n (2 ^ 63)
-
-abbrev pub whole_within : ℤ → Result Tree TaskError
-whole_within z = if is_whole z then Ok (whole z) else Err Overflow
-
-abbrev pub both_items : Items → Items → Items
-both_items no_items us = us
-both_items (item t ts) us = item t (both_items ts us)
-
--- `+`
-abbrev pub sum_of : Tree → Tree → Result Tree TaskError
-sum_of (whole a) (whole b) = whole_within (a +ℤ b)
-sum_of (text a) (text b) = Ok (text (a ++ b))
-sum_of (list a) (list b) = Ok (list (both_items a b))
-sum_of (numbers a) (numbers b) = Ok (numbers (a ++ b))
-sum_of _ _ = Err BadKind
-
--- `*`
-abbrev pub product_of : Tree → Tree → Result Tree TaskError
-product_of (whole a) (whole b) = whole_within (a *ℤ b)
-product_of _ _ = Err BadKind
+use Rattle.jl_value.specs.declared.library.TaskError.TheVariants.{NoArgument, ExtraArgument, BadKind, TooLong, TooDeep}
+use Rattle.jl_syntax.specs.declared.operators.Operator.{Operator}
+use Rattle.jl_syntax.specs.declared.operators.Operator.TheVariants.{Or, And, Equal, Unequal, Less, AtMost, Greater, AtLeast, Plus, Minus, Times, Quotient, Remainder}
+use Rattle.jl_syntax.specs.Words.{constant_of}
+use Rattle.jl_syntax.specs.Trees.{Expression, tall, leaf, bracketed, before, between, choice, index, call, span, list as listed, each, filtered, table as tabled}
+use Rattle.jl_syntax.specs.Headings.{Definition, Reading, bad, good, definition_in}
+use Rattle.jl_lang.specs.declared.settled.Settled.{Settled}
+use Rattle.jl_lang.specs.declared.settled.Settled.TheVariants.{Known, Open, Wrong, Both}
+use Rattle.jl_lang.specs.Steps.{Ran, done, failed, then', counted, operated}
+use Rattle.jl_lang.specs.Operations.{operation, prefixed, element_of}
+use Rattle.jl_lang.specs.Calls.{call_value, range_of}
 
 -- the argument of a name
 abbrev pub argument : List ℕ → List (List ℕ × Tree) → Option Tree
@@ -80,12 +27,58 @@ abbrev pub named : ℕ → Option Tree → Ran
 named n None = failed NoArgument
 named n (Some v) = counted n v
 
--- the value of an expression, left operands first, behind a count of steps
+-- the value of a word: what it writes, or the argument that it names
+abbrev pub word_value : List (List ℕ × Tree) → List ℕ → Option Tree → ℕ → Ran
+word_value ps w (Some v) n = counted n v
+word_value ps w None n = named n (argument w ps)
+
+-- what the left side of an operator tells: the value, that the right side decides, that it is no truth, or that both sides are needed
+abbrev pub settle : Operator → Tree → Settled
+settle Or (truth true) = Known true
+settle Or (truth false) = Open
+settle Or _ = Wrong
+settle And (truth true) = Open
+settle And (truth false) = Known false
+settle And _ = Wrong
+settle _ _ = Both
+
+-- a truth, as the right side of `or` and `and` is to be
+abbrev pub truth_counted : Tree → ℕ → Ran
+truth_counted (truth b) n = counted n (truth b)
+truth_counted _ n = failed BadKind
+
+-- an operation, from its left side, the count behind it, and what the right side comes to
+abbrev pub settled : Operator → Tree → Settled → ℕ → (ℕ → Ran) → Ran
+settled o v (Known b) n right = counted n (truth b)
+settled o v Open n right = then' (right n) truth_counted
+settled o v Wrong n right = failed BadKind
+settled o v Both n right = then' (right n) (λ w m. operated m (operation o v w))
+
+-- a value that is counted once more
+abbrev pub again : Ran → Ran
+again r = then' r (λ v n. counted n v)
+
+-- one of two branches, by a condition
+abbrev pub chosen : Tree → ℕ → (ℕ → Ran) → (ℕ → Ran) → Ran
+chosen (truth true) n first last = again (first n)
+chosen (truth false) n first last = again (last n)
+chosen _ n first last = failed BadKind
+
+-- the value of an expression behind a count of steps: its parts from left to right, each value counted before it is made
 abbrev pub value_of : List (List ℕ × Tree) → Expression → ℕ → Ran
-value_of ps (name w) n = named n (argument w ps)
-value_of ps (number k) n = counted n (whole (pos k))
-value_of ps (plus a b) n = then' (value_of ps a n) (λ v m. then' (value_of ps b m) (λ w k. operated k (sum_of v w)))
-value_of ps (times a b) n = then' (value_of ps a n) (λ v m. then' (value_of ps b m) (λ w k. operated k (product_of v w)))
+value_of ps tall n = failed BadKind
+value_of ps (leaf w) n = word_value ps w (constant_of w) n
+value_of ps (bracketed e) n = value_of ps e n
+value_of ps (before p e) n = then' (value_of ps e n) (λ v m. operated m (prefixed p v))
+value_of ps (between o a b) n = then' (value_of ps a n) (λ v m. settled o v (settle o v) m (λ k. value_of ps b k))
+value_of ps (choice a c b) n = then' (value_of ps c n) (λ v m. chosen v m (λ k. value_of ps a k) (λ k. value_of ps b k))
+value_of ps (index a i) n = then' (value_of ps a n) (λ v m. then' (value_of ps i m) (λ w k. operated k (element_of v w)))
+value_of ps (call f e) n = then' (value_of ps e n) (λ v m. operated m (call_value f v))
+value_of ps (span a b) n = then' (value_of ps a n) (λ v m. then' (value_of ps b m) (λ w k. operated k (range_of v w)))
+value_of ps (listed ms) n = failed BadKind
+value_of ps (each e x a) n = failed BadKind
+value_of ps (filtered e x a c) n = failed BadKind
+value_of ps (tabled es) n = failed BadKind
 
 -- a value may nest 64 deep, and its text may have 2 ^ 20 bytes
 abbrev pub limited : Ran → Answer

@@ -1,17 +1,18 @@
 ghost use Rattle.std.specs.Prelude.{◌≡◌, ◌≤◌, Some, None, MatchOption, MatchResult};
 ghost use Rattle.jl_value.specs.Form.{tree_of, entries_of};
-ghost use Rattle.jl_lang.specs.Signs.{signs};
-ghost use Rattle.jl_lang.specs.Grammar.{operand_of};
-ghost use Rattle.jl_lang.specs.Meaning.{argument as argument_of, counted as counted_of};
-ghost use Rattle.jl_lang.specs.Runs.{operand_value, summed as summed_of, run_from, run_all};
-ghost use Rattle.jl_lang.specs.Outcomes.{IsRan, IsFailing, IsBehind, FailsToAdd, IsProduct, FailsToMultiply, tree_if};
+ghost use Rattle.jl_syntax.specs.Words.{constant_of};
+ghost use Rattle.jl_syntax.specs.Trees.{before as before_tree, between as between_tree, choice as choice_tree, index as index_tree, call as call_tree, span as span_tree};
+ghost use Rattle.jl_lang.specs.declared.settled.Settled.TheVariants.{Both};
+ghost use Rattle.jl_lang.specs.Steps.{counted as counted_of};
+ghost use Rattle.jl_lang.specs.Meaning.{argument as argument_of, named as named_of, word_value as word_value_of, truth_counted as truth_counted_of, again, settle as settle_of, settled as settled_of, value_of};
+ghost use Rattle.jl_lang.specs.Outcomes.{IsRan, IsFailing};
 
+use crate::calls::{call, span};
 use crate::fault::CallFault;
-use crate::lexer::next_sign;
-use crate::operations::{product, sum};
-use crate::reader::{Operation, next_operation};
+use crate::operations::{element, operation, prefixed};
+use crate::settled::{Settled, settle};
 use crate::weights::weight;
-use crate::words::{is_identifier, number};
+use jl_syntax::{Function, Node, Operator, Prefix, Tree, Word};
 use jl_text::Text;
 use jl_value::{Args, TaskError, Value};
 use std::alloc::Global;
@@ -23,15 +24,7 @@ pub(crate) struct Counted {
     pub(crate) count: u64,
 }
 
-/// The sum of the terms before, the next term and the count of steps so far.
-#[derive(Drop)]
-pub(crate) struct Behind {
-    pub(crate) sum: Value,
-    pub(crate) term: Value,
-    pub(crate) count: u64,
-}
-
-fn count_value(value: Value, count: u64) -> Result<Counted, CallFault>
+pub(crate) fn count_value(value: Value, count: u64) -> Result<Counted, CallFault>
     requires { count ≤ 16777216 }
     ensures { MatchResult result (λ c. IsRan c (counted_of count (tree_of value))) (λ e. IsFailing e (counted_of count (tree_of value))) }
 {
@@ -71,115 +64,205 @@ fn argument<'a>(members: &'a [(Text, Value)], name: &[u8]) -> Option<&'a Value>
     None
 }
 
-fn operand(alloc: Global, args: &Args, sign: &[u8], count: u64) -> Result<Counted, CallFault>
+fn named(alloc: Global, args: &Args, name: &[u8], count: u64) -> Result<Counted, CallFault>
     requires { count ≤ 16777216 }
-    ensures { MatchResult result (λ c. IsRan c (operand_value args.now (operand_of sign.now) count)) (λ e. IsFailing e (operand_value args.now (operand_of sign.now) count)) }
+    ensures { MatchResult result (λ c. IsRan c (named_of count (argument_of name.now args.now))) (λ e. IsFailing e (named_of count (argument_of name.now args.now))) }
 {
-    if is_identifier(sign) {
-        return match argument(args.value().members(), sign) {
-            Some(value) => counted_copy(alloc, value, count),
-            None => Err(CallFault::Task(TaskError::NoArgument)),
-        };
-    }
-    match number(sign) {
-        Some(value) => count_value(Value::Whole(value as i64), count),
-        None => Err(CallFault::Task(TaskError::BadKind)),
+    match argument(args.value().members(), name) {
+        Some(value) => counted_copy(alloc, value, count),
+        None => Err(CallFault::Task(TaskError::NoArgument)),
     }
 }
 
-fn summed(
-    alloc: Global,
-    before: Option<Value>,
-    term: Value,
-    count: u64,
-) -> Result<Counted, CallFault>
+fn word_value(alloc: Global, args: &Args, word: &Word, count: u64) -> Result<Counted, CallFault>
     requires { count ≤ 16777216 }
-    ensures { MatchResult result (λ c. IsRan c (summed_of (tree_if before) (tree_of term) count)) (λ e. IsFailing e (summed_of (tree_if before) (tree_of term) count)) }
+    ensures { MatchResult result (λ c. IsRan c (word_value_of args.now word.now (constant_of word.now) count)) (λ e. IsFailing e (word_value_of args.now word.now (constant_of word.now) count)) }
 {
-    match before {
-        Some(before) => count_value(sum(alloc, &before, &term)?, count),
-        None => Ok(Counted { value: term, count }),
+    match word.value() {
+        Some(value) => counted_copy(alloc, value, count),
+        None => named(alloc, args, word.bytes(), count),
     }
 }
 
-fn add(
-    alloc: Global,
-    args: &Args,
-    before: Option<Value>,
-    term: Value,
-    count: u64,
-    sign: &[u8],
-) -> Result<Behind, CallFault>
-    requires { count ≤ 16777216 }
-    ensures { MatchResult result (λ b. IsBehind b args.now (tree_if before) (tree_of term) count sign.now) (λ e. FailsToAdd e args.now (tree_if before) (tree_of term) count sign.now) }
+fn count_truth(right: Counted) -> Result<Counted, CallFault>
+    requires { right.count ≤ 16777216 }
+    ensures { MatchResult result (λ c. IsRan c (truth_counted_of (tree_of right.value) right.count)) (λ e. IsFailing e (truth_counted_of (tree_of right.value) right.count)) }
 {
-    let sum = summed(alloc, before, term, count)?;
-    let next = operand(alloc, args, sign, sum.count)?;
-    Ok(Behind {
-        sum: sum.value,
-        term: next.value,
-        count: next.count,
-    })
+    match right.value {
+        Value::Truth(truth) => count_value(Value::Truth(truth), right.count),
+        _ => Err(CallFault::Task(TaskError::BadKind)),
+    }
 }
 
-fn multiply(
+#[cycle(evaluate)]
+fn before(
     alloc: Global,
     args: &Args,
-    term: Value,
+    prefix: Prefix,
+    inner: &Tree,
     count: u64,
-    sign: &[u8],
 ) -> Result<Counted, CallFault>
     requires { count ≤ 16777216 }
-    ensures { MatchResult result (λ c. IsProduct c args.now (tree_of term) count sign.now) (λ e. FailsToMultiply e args.now (tree_of term) count sign.now) }
+    ensures { MatchResult result (λ c. IsRan c (value_of args.now (before_tree prefix inner.now) count)) (λ e. IsFailing e (value_of args.now (before_tree prefix inner.now) count)) }
 {
-    let factor = operand(alloc, args, sign, count)?;
-    count_value(product(&term, &factor.value)?, factor.count)
+    let value = evaluate(alloc, args, inner, count)?;
+    count_value(prefixed(prefix, &value.value)?, value.count)
 }
 
-fn run_behind(
+#[cycle(evaluate)]
+fn both(
     alloc: Global,
     args: &Args,
-    first: Counted,
-    bytes: &[u8],
+    operator: Operator,
+    left: &Value,
+    right: &Tree,
+    count: u64,
 ) -> Result<Counted, CallFault>
-    requires { first.count ≤ 16777216 }
-    ensures { MatchResult result (λ c. IsRan c (run_from args.now None (tree_of first.value) first.count (signs bytes.now)))
-        (λ e. IsFailing e (run_from args.now None (tree_of first.value) first.count (signs bytes.now))) }
+    requires { count ≤ 16777216 }
+    ensures { MatchResult result (λ c. IsRan c (settled_of operator (tree_of left.now) Both count (value_of args.now right.now)))
+        (λ e. IsFailing e (settled_of operator (tree_of left.now) Both count (value_of args.now right.now))) }
 {
-    let mut before: Option<Value> = None;
-    let mut term = first.value;
-    let mut count = first.count;
-    let mut left = bytes;
-    'operations: loop {
-        match next_operation(left) {
-            Operation::End => return summed(alloc, before, term, count),
-            Operation::Broken => return Err(CallFault::Task(TaskError::BadKind)),
-            Operation::Add(sign, rest) => {
-                let behind = add(alloc, args, before, term, count, sign)?;
-                before = Some(behind.sum);
-                term = behind.term;
-                count = behind.count;
-                left = rest;
-            }
-            Operation::Multiply(sign, rest) => {
-                let next = multiply(alloc, args, term, count, sign)?;
-                term = next.value;
-                count = next.count;
-                left = rest;
-            }
+    let right = evaluate(alloc, args, right, count)?;
+    count_value(operation(alloc, operator, left, &right.value)?, right.count)
+}
+
+#[cycle(evaluate)]
+fn behind_left(
+    alloc: Global,
+    args: &Args,
+    operator: Operator,
+    left: &Value,
+    right: &Tree,
+    count: u64,
+) -> Result<Counted, CallFault>
+    requires { count ≤ 16777216 }
+    ensures { MatchResult result (λ c. IsRan c (settled_of operator (tree_of left.now) (settle_of operator (tree_of left.now)) count (value_of args.now right.now)))
+        (λ e. IsFailing e (settled_of operator (tree_of left.now) (settle_of operator (tree_of left.now)) count (value_of args.now right.now))) }
+{
+    match settle(operator, left) {
+        Settled::Known(truth) => count_value(Value::Truth(truth), count),
+        Settled::Open => count_truth(evaluate(alloc, args, right, count)?),
+        Settled::Wrong => Err(CallFault::Task(TaskError::BadKind)),
+        Settled::Both => both(alloc, args, operator, left, right, count),
+    }
+}
+
+#[cycle(evaluate)]
+fn between(
+    alloc: Global,
+    args: &Args,
+    operator: Operator,
+    left: &Tree,
+    right: &Tree,
+    count: u64,
+) -> Result<Counted, CallFault>
+    requires { count ≤ 16777216 }
+    ensures { MatchResult result (λ c. IsRan c (value_of args.now (between_tree operator left.now right.now) count)) (λ e. IsFailing e (value_of args.now (between_tree operator left.now right.now) count)) }
+{
+    let left = evaluate(alloc, args, left, count)?;
+    behind_left(alloc, args, operator, &left.value, right, left.count)
+}
+
+#[cycle(evaluate)]
+fn counted_again(alloc: Global, args: &Args, tree: &Tree, count: u64) -> Result<Counted, CallFault>
+    requires { count ≤ 16777216 }
+    ensures { MatchResult result (λ c. IsRan c (again (value_of args.now tree.now count))) (λ e. IsFailing e (again (value_of args.now tree.now count))) }
+{
+    let value = evaluate(alloc, args, tree, count)?;
+    count_value(value.value, value.count)
+}
+
+#[cycle(evaluate)]
+fn choice(
+    alloc: Global,
+    args: &Args,
+    first: &Tree,
+    condition: &Tree,
+    last: &Tree,
+    count: u64,
+) -> Result<Counted, CallFault>
+    requires { count ≤ 16777216 }
+    ensures { MatchResult result (λ c. IsRan c (value_of args.now (choice_tree first.now condition.now last.now) count)) (λ e. IsFailing e (value_of args.now (choice_tree first.now condition.now last.now) count)) }
+{
+    let condition = evaluate(alloc, args, condition, count)?;
+    match condition.value {
+        Value::Truth(true) => counted_again(alloc, args, first, condition.count),
+        Value::Truth(false) => counted_again(alloc, args, last, condition.count),
+        _ => Err(CallFault::Task(TaskError::BadKind)),
+    }
+}
+
+#[cycle(evaluate)]
+fn index(
+    alloc: Global,
+    args: &Args,
+    whole: &Tree,
+    at: &Tree,
+    count: u64,
+) -> Result<Counted, CallFault>
+    requires { count ≤ 16777216 }
+    ensures { MatchResult result (λ c. IsRan c (value_of args.now (index_tree whole.now at.now) count)) (λ e. IsFailing e (value_of args.now (index_tree whole.now at.now) count)) }
+{
+    let whole = evaluate(alloc, args, whole, count)?;
+    let at = evaluate(alloc, args, at, whole.count)?;
+    count_value(element(alloc, &whole.value, &at.value)?, at.count)
+}
+
+#[cycle(evaluate)]
+fn called(
+    alloc: Global,
+    args: &Args,
+    function: Function,
+    member: &Tree,
+    count: u64,
+) -> Result<Counted, CallFault>
+    requires { count ≤ 16777216 }
+    ensures { MatchResult result (λ c. IsRan c (value_of args.now (call_tree function member.now) count)) (λ e. IsFailing e (value_of args.now (call_tree function member.now) count)) }
+{
+    let member = evaluate(alloc, args, member, count)?;
+    call(alloc, function, &member.value, member.count)
+}
+
+#[cycle(evaluate)]
+fn spanned(
+    alloc: Global,
+    args: &Args,
+    first: &Tree,
+    end: &Tree,
+    count: u64,
+) -> Result<Counted, CallFault>
+    requires { count ≤ 16777216 }
+    ensures { MatchResult result (λ c. IsRan c (value_of args.now (span_tree first.now end.now) count)) (λ e. IsFailing e (value_of args.now (span_tree first.now end.now) count)) }
+{
+    let first = evaluate(alloc, args, first, count)?;
+    let end = evaluate(alloc, args, end, first.count)?;
+    span(alloc, &first.value, &end.value, end.count)
+}
+
+/// The value of an expression on arguments behind a count of steps, or its first error.
+#[cycle(evaluate)]
+pub(crate) fn evaluate(
+    alloc: Global,
+    args: &Args,
+    tree: &Tree,
+    count: u64,
+) -> Result<Counted, CallFault>
+    requires { count ≤ 16777216 }
+    ensures { MatchResult result (λ c. IsRan c (value_of args.now tree.now count)) (λ e. IsFailing e (value_of args.now tree.now count)) }
+{
+    match tree.node() {
+        Node::Tall => Err(CallFault::Task(TaskError::BadKind)),
+        Node::Leaf(word) => word_value(alloc, args, word, count),
+        Node::Bracketed(inner) => evaluate(alloc, args, inner, count),
+        Node::Before(prefix, inner) => before(alloc, args, *prefix, inner, count),
+        Node::Between(operator, left, right) => {
+            between(alloc, args, *operator, left, right, count)
         }
-    }
-}
-
-/// The value of an expression on arguments, or its first error.
-pub(crate) fn run(alloc: Global, args: &Args, bytes: &[u8]) -> Result<Counted, CallFault>
-    ensures { MatchResult result (λ c. IsRan c (run_all args.now (signs bytes.now))) (λ e. IsFailing e (run_all args.now (signs bytes.now))) }
-{
-    match next_sign(bytes) {
-        Some((sign, rest)) => {
-            let first = operand(alloc, args, sign, 0)?;
-            run_behind(alloc, args, first, rest)
+        Node::Choice(first, condition, last) => {
+            choice(alloc, args, first, condition, last, count)
         }
-        None => Err(CallFault::Task(TaskError::BadKind)),
+        Node::Index(whole, at) => index(alloc, args, whole, at, count),
+        Node::Call(function, member) => called(alloc, args, *function, member, count),
+        Node::Span(first, end) => spanned(alloc, args, first, end, count),
     }
 }

@@ -2,18 +2,16 @@ ghost use Rattle.std.specs.Prelude.{◌≡◌, [], Some, MatchResult, IfOk, map,
 ghost use Rattle.jl_value.specs.Form.{tree_of, entries_of};
 ghost use Rattle.jl_value.specs.Canonical.{text_of};
 ghost use Rattle.jl_value.specs.Library.{value as answered_value, IfDone};
-ghost use Rattle.jl_lang.specs.Signs.{signs};
-ghost use Rattle.jl_lang.specs.Grammar.{Expression, expression_of};
-ghost use Rattle.jl_lang.specs.Meaning.{has_argument as has_argument_of, has_arguments as has_arguments_of, has_parameters as has_parameters_of, limited as limited_of, called as called_of, done, answer_of};
-ghost use Rattle.jl_lang.specs.Runs.{run_all};
+ghost use Rattle.jl_syntax.specs.Trees.{Expression};
+ghost use Rattle.jl_lang.specs.Steps.{done};
+ghost use Rattle.jl_lang.specs.Meaning.{has_argument as has_argument_of, has_arguments as has_arguments_of, has_parameters as has_parameters_of, limited as limited_of, called as called_of, answer_of, value_of};
+ghost use Rattle.jl_syntax.specs.Lines.{definition_read};
 ghost use Rattle.jl_lang.specs.Outcomes.{IsError};
 
-use crate::evaluator::{Counted, run};
-use crate::fault::{CallFault, LineFault};
-use crate::module::{find, module_fault};
-use crate::names::Names;
-use crate::reader::{Head, read_definition};
+use crate::evaluator::{Counted, evaluate};
+use crate::fault::CallFault;
 use crate::weights::nests_within;
+use jl_syntax::{Definition, LineFault, Names, Tree, find, module_fault, read_definition};
 use jl_text::Text;
 use jl_value::{Args, Called, CodeRef, Library, Outcome, ReadModule, TaskError, Value, canonical};
 use std::alloc::{AllocError, Global};
@@ -92,34 +90,33 @@ fn limited(alloc: Global, ran: Counted) -> Result<Value, CallFault>
     Ok(value)
 }
 
-fn evaluated(alloc: Global, args: &Args, body: &[u8]) -> Result<Value, CallFault>
-    ensures { MatchResult result (λ v. limited_of (run_all args.now (signs body.now)) ≡ answered_value (tree_of v))
-        (λ e. IsError e (limited_of (run_all args.now (signs body.now)))) }
+fn evaluated(alloc: Global, args: &Args, body: &Tree) -> Result<Value, CallFault>
+    ensures { MatchResult result (λ v. limited_of (value_of args.now body.now 0) ≡ answered_value (tree_of v))
+        (λ e. IsError e (limited_of (value_of args.now body.now 0))) }
 {
-    let ran = run(alloc, args, body)?;
+    let ran = evaluate(alloc, args, body, 0)?;
     limited(alloc, ran)
 }
 
-fn called(alloc: Global, head: &Head, args: &Args) -> Result<Value, CallFault>
-    ensures { (e : Expression) → expression_of (signs head.now.body.now) ≡ Some e → MatchResult result
-        (λ v. called_of (record { name = head.now.name.now; parameters = head.now.parameters; body = e }) args.now ≡ answered_value (tree_of v))
-        (λ f. IsError f (called_of (record { name = head.now.name.now; parameters = head.now.parameters; body = e }) args.now)) }
+fn called(alloc: Global, definition: &Definition, args: &Args) -> Result<Value, CallFault>
+    ensures { MatchResult result (λ v. called_of (definition_read definition.now) args.now ≡ answered_value (tree_of v))
+        (λ f. IsError f (called_of (definition_read definition.now) args.now)) }
 {
     let members = args.value().members();
-    if !has_arguments(head.parameters.as_slice(), members) {
+    if !has_arguments(definition.parameters.as_slice(), members) {
         return Err(CallFault::Task(TaskError::NoArgument));
     }
-    if !has_parameters(&head.parameters, members) {
+    if !has_parameters(&definition.parameters, members) {
         return Err(CallFault::Task(TaskError::ExtraArgument));
     }
-    evaluated(alloc, args, head.body)
+    evaluated(alloc, args, &definition.body)
 }
 
 fn answer(alloc: Global, code: &str, args: &Args) -> Result<Value, CallFault>
     ensures { MatchResult result (λ v. answer_of code.now args.now ≡ answered_value (tree_of v)) (λ e. IsError e (answer_of code.now args.now)) }
 {
     match read_definition(alloc, code.as_bytes()) {
-        Ok(head) => called(alloc, &head, args),
+        Ok(definition) => called(alloc, &definition, args),
         Err(LineFault::Faulty(_)) => Err(CallFault::Task(TaskError::BadKind)),
         Err(LineFault::Memory) => Err(CallFault::NoMemory),
     }
@@ -136,9 +133,9 @@ fn outcome(alloc: Global, code: &str, args: &Args) -> Called
 }
 
 impl Library for Lang {
-    ghost use Rattle.jl_lang.specs.Modules.{code_in, line_in, fault_of};
+    ghost use Rattle.jl_syntax.specs.Modules.{code_in, line_in, fault_of};
     ghost use Rattle.jl_lang.specs.Meaning.{answer_of};
-    ghost use Rattle.jl_lang.specs.ModuleLaws.{code_named, lines_from_one, code_short, module_utf8};
+    ghost use Rattle.jl_syntax.specs.ModuleLaws.{code_named, lines_from_one, code_short, module_utf8};
     ghost use Rattle.jl_lang.specs.AnswerLaws.{answers_within};
 
     ghost code = { code_in };

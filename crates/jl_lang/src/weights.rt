@@ -2,7 +2,7 @@ ghost use Rattle.std.specs.Prelude.{◌≡◌, ◌≤◌, ◌+◌, min};
 ghost use Rattle.jl_value.specs.Tree.{items_of, members_of};
 ghost use Rattle.jl_value.specs.Form.{tree_of, trees_of, entries_of};
 ghost use Rattle.jl_value.specs.Tree.{nesting, items_nesting, members_nesting};
-ghost use Rattle.jl_lang.specs.Meaning.{weight as weight_of, items_weight as items_weight_of, members_weight as members_weight_of};
+ghost use Rattle.jl_lang.specs.Steps.{weight as weight_of, items_weight as items_weight_of, members_weight as members_weight_of};
 ghost use Rattle.std.specs.Prelude.{nat_le};
 
 use jl_text::Text;

@@ -1,7 +1,7 @@
 use Rattle.std.proofs.Common.{◌≡◌, ◌≤◌, ◌+◌, ◌*◌, drop, min}
 use Rattle.jl_value.specs.Tree.{items_of, members_of, height, items_height, members_height}
 use Rattle.jl_value.specs.Form.{tree_of, trees_of, entries_of}
-use Rattle.jl_lang.specs.Meaning.{items_weight, members_weight}
+use Rattle.jl_lang.specs.Steps.{items_weight, members_weight}
 use Rattle.jl_lang.proofs.weights.+weight.Given as goal
 
 abbrev pub decreases-weight : goal.decreases-weight

@@ -1,0 +1,75 @@
+-- The count of steps stays within its limit.
+use Rattle.std.proofs.Common.{◌≡◌, ℕ, ◌+◌, ◌≤◌, Bool, true, false, List, Option, Some, None, refl, subst, arith}
+use Rattle.std.specs.Prelude.{nat_lt, if◌then◌else◌, Result, Ok, Err}
+use Rattle.jl_value.specs.Tree.{Tree, truth}
+use Rattle.jl_value.specs.declared.library.TaskError.{TaskError}
+use Rattle.jl_value.specs.declared.library.TaskError.TheVariants.{TooLong}
+use Rattle.jl_syntax.specs.declared.operators.Operator.{Operator}
+use Rattle.jl_syntax.specs.Words.{constant_of}
+use Rattle.jl_syntax.specs.Trees.{Expression, tall, leaf, bracketed, before, between, choice, index, call, span, list, each, filtered, table}
+use Rattle.jl_lang.specs.declared.settled.Settled.{Settled}
+use Rattle.jl_lang.specs.declared.settled.Settled.TheVariants.{Known, Open, Wrong, Both}
+use Rattle.jl_lang.specs.Steps.{Ran, done, failed, then', counted, operated, weight}
+use Rattle.jl_lang.specs.Operations.{operation, prefixed, element_of}
+use Rattle.jl_lang.specs.Calls.{call_value, range_of}
+use Rattle.jl_lang.specs.Meaning.{argument, named, word_value, settle, truth_counted, settled, again, chosen, value_of}
+
+abbrev IsLow : Ran → Type 0
+IsLow (done v n) = n ≤ 16777216
+IsLow (failed e) = Unit {0}
+
+counted_if : (b : Bool) (v : Tree) (n : ℕ) → nat_lt 16777216 n ≡ b → IsLow (if b then failed TooLong else done v n)
+counted_if true v n h = tt
+counted_if false v n h = grind arith
+
+counted_low : (n : ℕ) (v : Tree) → IsLow (counted n v)
+counted_low n v = counted_if (nat_lt 16777216 (n + weight v)) v (n + weight v) refl
+
+operated_low : (n : ℕ) (r : Result Tree TaskError) → IsLow (operated n r)
+operated_low n (Ok v) = counted_low n v
+operated_low n (Err e) = tt
+
+then_low : (r : Ran) (f : Tree → ℕ → Ran) → ((v : Tree) (n : ℕ) → IsLow (f v n)) → IsLow (then' r f)
+then_low (done v n) f h = h v n
+then_low (failed e) f h = tt
+
+named_low : (n : ℕ) (o : Option Tree) → IsLow (named n o)
+named_low n None = tt
+named_low n (Some v) = counted_low n v
+
+word_low : (ps : List (List ℕ × Tree)) (w : List ℕ) (o : Option Tree) (n : ℕ) → IsLow (word_value ps w o n)
+word_low ps w (Some v) n = counted_low n v
+word_low ps w None n = named_low n (argument w ps)
+
+truth_low : (v : Tree) (n : ℕ) → IsLow (truth_counted v n)
+truth_low (truth b) n = counted_low n (truth b)
+truth_low _ n = tt
+
+settled_low : (o : Operator) (v : Tree) (s : Settled) (n : ℕ) (right : ℕ → Ran) → IsLow (settled o v s n right)
+settled_low o v (Known b) n right = counted_low n (truth b)
+settled_low o v Open n right = then_low (right n) truth_counted truth_low
+settled_low o v Wrong n right = tt
+settled_low o v Both n right = then_low (right n) _ (λ w m. operated_low m (operation o v w))
+
+chosen_low : (v : Tree) (n : ℕ) (first last : ℕ → Ran) → IsLow (chosen v n first last)
+chosen_low (truth true) n first last = then_low (first n) _ (λ v m. counted_low m v)
+chosen_low (truth false) n first last = then_low (last n) _ (λ v m. counted_low m v)
+chosen_low _ n first last = tt
+
+value_low : (ps : List (List ℕ × Tree)) (e : Expression) (n : ℕ) → IsLow (value_of ps e n)
+value_low ps tall n = tt
+value_low ps (leaf w) n = word_low ps w (constant_of w) n
+value_low ps (bracketed e) n = value_low ps e n
+value_low ps (before p e) n = then_low (value_of ps e n) _ (λ v m. operated_low m (prefixed p v))
+value_low ps (between o a b) n = then_low (value_of ps a n) _ (λ v m. settled_low o v (settle o v) m (value_of ps b))
+value_low ps (choice a c b) n = then_low (value_of ps c n) _ (λ v m. chosen_low v m (value_of ps a) (value_of ps b))
+value_low ps (index a i) n = then_low (value_of ps a n) _ (λ v m. then_low (value_of ps i m) _ (λ w k. operated_low k (element_of v w)))
+value_low ps (call f e) n = then_low (value_of ps e n) _ (λ v m. operated_low m (call_value f v))
+value_low ps (span a b) n = then_low (value_of ps a n) _ (λ v m. then_low (value_of ps b m) _ (λ w k. operated_low k (range_of v w)))
+value_low ps (list ms) n = tt
+value_low ps (each e x a) n = tt
+value_low ps (filtered e x a c) n = tt
+value_low ps (table es) n = tt
+
+pub count_low : (ps : List (List ℕ × Tree)) (e : Expression) (n m : ℕ) (v : Tree) → value_of ps e n ≡ done v m → m ≤ 16777216
+count_low ps e n m v same = subst IsLow same (value_low ps e n)

@@ -1,0 +1,42 @@
+-- The count of steps: each value counts what it weighs, and the count may not pass 2 ^ 24.
+use Rattle.std.specs.Prelude.{ℕ, ◌+◌, nat_lt, if◌then◌else◌, length, Result, Ok, Err}
+use Rattle.jl_value.specs.Tree.{Tree, null, truth, whole, text, list, table, numbers, Items, no_items, item, Members, no_members, member}
+use Rattle.jl_value.specs.declared.library.TaskError.{TaskError}
+use Rattle.jl_value.specs.declared.library.TaskError.TheVariants.{TooLong}
+
+-- what a value counts
+abbrev mutual
+  pub weight : Tree → ℕ
+  weight null = 1
+  weight (truth b) = 1
+  weight (whole z) = 1
+  weight (text s) = 1 + length s
+  weight (list ts) = 1 + items_weight ts
+  weight (table ms) = 1 + members_weight ms
+  weight (numbers zs) = 1 + length zs
+
+  pub items_weight : Items → ℕ
+  items_weight no_items = 0
+  items_weight (item t ts) = weight t + items_weight ts
+
+  pub members_weight : Members → ℕ
+  members_weight no_members = 0
+  members_weight (member k t ms) = length k + (weight t + members_weight ms)
+
+-- a value with the count of steps so far, or the first error
+pub data Ran : Type 0 where
+  done : Tree → ℕ → Ran
+  failed : TaskError → Ran
+
+-- goes on where there is no error
+abbrev pub then' : Ran → (Tree → ℕ → Ran) → Ran
+then' (done v n) next = next v n
+then' (failed e) next = failed e
+
+-- a value to be counted, which may not pass 2 ^ 24
+abbrev pub counted : ℕ → Tree → Ran
+counted n v = if nat_lt 16777216 (n + weight v) then failed TooLong else done v (n + weight v)
+
+abbrev pub operated : ℕ → Result Tree TaskError → Ran
+operated n (Ok v) = counted n v
+operated n (Err e) = failed e

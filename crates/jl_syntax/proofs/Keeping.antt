@@ -1,0 +1,271 @@
+-- A reader that keeps no tree higher than 128 reads the same, but for those.
+use Rattle.std.proofs.Common.{◌≡◌, ℕ, suc, ◌+◌, ◌<◌, ◌≤◌, max, min, Bool, true, false, List, [], ◌∷◌, map, Option, Some, None, refl, sym, ap, ap₂, ◌∙◌, arith, inl, inr}
+use Rattle.std.specs.Prelude.{nat_le, nat_lt, if◌then◌else◌}
+use Rattle.std.proofs.lemmas.Bool.{cases_lt}
+use Rattle.jl_syntax.specs.declared.operators.Operator.{Operator}
+use Rattle.jl_syntax.specs.declared.operators.Prefix.{Prefix}
+use Rattle.jl_syntax.specs.declared.operators.Function.{Function}
+use Rattle.jl_syntax.specs.declared.operators.Function.TheVariants.{Len, Sum, Min, Max, Range, Array}
+use Rattle.jl_syntax.specs.declared.joint.Joint.{Joint}
+use Rattle.jl_syntax.specs.declared.joint.Joint.TheVariants.{Infix, Opening, If, Else, Closing, Ending, Comma, Strange}
+use Rattle.jl_syntax.specs.declared.machine.Frame.{Frame}
+use Rattle.jl_syntax.specs.declared.machine.Frame.TheVariants.{Bracket, Behind, Operand, Condition, Otherwise, Element, Member, Bound}
+use Rattle.jl_syntax.specs.declared.machine.Mode.{Mode}
+use Rattle.jl_syntax.specs.declared.machine.Mode.TheVariants.{Wanted, Held, Calling}
+use Rattle.jl_syntax.specs.Words.{is_leaf}
+use Rattle.jl_syntax.specs.Marks.{is_mark, prefix_of, function_of, own_level, left_level, prefix_level}
+use Rattle.jl_syntax.specs.Trees.{Expression, tall, leaf, bracketed, before, between, choice, index, call, span, height}
+use Rattle.jl_syntax.specs.Machine.{joint_of, wanted, is_bracket, depth, binds, operated, Operands, reduced, Step, going, bad, deep, begun, nested, prefixed, infixed, asked, elsed_by, closed_by, ended_by, member_behind, parted_by, called_or, gone_on, step, Read, read, broken, nested_deep, whole_by, finished, follow, run, kept}
+
+-- ---- what is kept of a tree
+
+over : (n : ℕ) → 128 < n → nat_lt 128 n ≡ true
+over n h = grind arith
+
+under : (n : ℕ) → n ≤ 128 → nat_lt 128 n ≡ false
+under n h = grind arith
+
+pub kept_tall : (e : Expression) → 128 < height e → kept e ≡ tall
+kept_tall e h = rw (over (height e) h)
+
+pub kept_low : (e : Expression) → height e ≤ 128 → kept e ≡ e
+kept_low e h = rw (under (height e) h)
+
+kept_if : (b : Bool) (e : Expression) → nat_lt 128 (height e) ≡ b → height (if b then tall else e) ≡ min (height e) 129
+kept_if true e h = let high : 128 < height e = grind arith in omega arith
+kept_if false e h = let low : height e ≤ 128 = grind arith in omega arith
+
+pub kept_height : (e : Expression) → height (kept e) ≡ min (height e) 129
+kept_height e = kept_if (nat_lt 128 (height e)) e refl
+
+-- a tree is as high whether its parts are kept or not
+both_tall : (a b : Expression) → 128 < height a → 128 < height b → kept a ≡ kept b
+both_tall a b h k = kept_tall a h ∙ sym (kept_tall b k)
+
+kept_one : (f : Expression → Expression) → ((e : Expression) → height (f e) ≡ suc (height e)) → (e : Expression) → kept (f (kept e)) ≡ kept (f e)
+kept_one f hf e = elim (cases_lt 128 (height e)) [
+  | inl high ↦ let x = hf e in let y = hf (kept e) in let z = kept_height e in both_tall (f (kept e)) (f e) (omega arith) (omega arith)
+  | inr low ↦ ap (λ x. kept (f x)) (kept_low e low)
+]
+
+kept_two : (f : Expression → Expression → Expression) → ((a b : Expression) → height (f a b) ≡ suc (max (height a) (height b))) → (a b : Expression) → kept (f (kept a) (kept b)) ≡ kept (f a b)
+kept_two f hf a b = elim (cases_lt 128 (max (height a) (height b))) [
+  | inl high ↦ let x = hf a b in let y = hf (kept a) (kept b) in let z = kept_height a in let w = kept_height b in both_tall (f (kept a) (kept b)) (f a b) (omega arith) (omega arith)
+  | inr low ↦ ap₂ (λ x y. kept (f x y)) (kept_low a (omega arith)) (kept_low b (omega arith))
+]
+
+kept_choice : (a c b : Expression) → kept (choice (kept a) (kept c) (kept b)) ≡ kept (choice a c b)
+kept_choice a c b = elim (cases_lt 128 (max (height a) (max (height c) (height b)))) [
+  | inl high ↦ let z = kept_height a in let w = kept_height b in let v = kept_height c in both_tall (choice (kept a) (kept c) (kept b)) (choice a c b) (omega arith) (omega arith)
+  | inr low ↦ ap (λ x. kept (choice x (kept c) (kept b))) (kept_low a (omega arith)) ∙ ap₂ (λ x y. kept (choice a x y)) (kept_low c (omega arith)) (kept_low b (omega arith))
+]
+
+-- ---- what is kept of what waits
+
+abbrev pub cut_frame : Frame → Frame
+cut_frame Bracket = Bracket
+cut_frame (Behind p) = Behind p
+cut_frame (Operand o a) = Operand o (kept a)
+cut_frame (Condition a) = Condition (kept a)
+cut_frame (Otherwise a c) = Otherwise (kept a) (kept c)
+cut_frame (Element a) = Element (kept a)
+cut_frame (Member f) = Member f
+cut_frame (Bound a) = Bound (kept a)
+
+abbrev pub cut_frames : List Frame → List Frame
+cut_frames [] = []
+cut_frames (f ∷ fs) = cut_frame f ∷ cut_frames fs
+
+abbrev pub cut_mode : Mode → Mode
+cut_mode Wanted = Wanted
+cut_mode (Held e) = Held (kept e)
+cut_mode (Calling f) = Calling f
+
+abbrev pub cut_step : Step → Step
+cut_step (going fs m) = going (cut_frames fs) (cut_mode m)
+cut_step bad = bad
+cut_step deep = deep
+
+abbrev pub cut_read : Read → Read
+cut_read (read e) = read (kept e)
+cut_read broken = broken
+cut_read nested_deep = nested_deep
+
+abbrev pub cut_operands : Operands → Operands
+cut_operands r = record { frames = cut_frames r.frames; tree = kept r.tree }
+
+wanted_cut : (fs : List Frame) → wanted (cut_frames fs) ≡ wanted fs
+wanted_cut [] = refl
+wanted_cut (Bracket ∷ fs) = refl
+wanted_cut (Behind p ∷ fs) = refl
+wanted_cut (Operand o a ∷ fs) = refl
+wanted_cut (Condition a ∷ fs) = refl
+wanted_cut (Otherwise a c ∷ fs) = refl
+wanted_cut (Element a ∷ fs) = refl
+wanted_cut (Member f ∷ fs) = refl
+wanted_cut (Bound a ∷ fs) = refl
+
+bracket_cut : (f : Frame) → is_bracket (cut_frame f) ≡ is_bracket f
+bracket_cut Bracket = refl
+bracket_cut (Behind p) = refl
+bracket_cut (Operand o a) = refl
+bracket_cut (Condition a) = refl
+bracket_cut (Otherwise a c) = refl
+bracket_cut (Element a) = refl
+bracket_cut (Member f) = refl
+bracket_cut (Bound a) = refl
+
+depth_cut : (fs : List Frame) → depth (cut_frames fs) ≡ depth fs
+depth_cut [] = refl
+depth_cut (f ∷ fs) = ap₂ (λ b n. if b then suc n else n) (bracket_cut f) (depth_cut fs)
+
+binds_cut : (l : ℕ) (f : Frame) → binds l (cut_frame f) ≡ binds l f
+binds_cut l Bracket = refl
+binds_cut l (Behind p) = refl
+binds_cut l (Operand o a) = refl
+binds_cut l (Condition a) = refl
+binds_cut l (Otherwise a c) = refl
+binds_cut l (Element a) = refl
+binds_cut l (Member f) = refl
+binds_cut l (Bound a) = refl
+
+operated_cut : (f : Frame) (e : Expression) → operated kept (cut_frame f) (kept e) ≡ kept (operated (λ e. e) f e)
+operated_cut Bracket e = refl
+operated_cut (Behind p) e = kept_one (before p) (λ e. refl) e
+operated_cut (Operand o a) e = kept_two (between o) (λ a b. refl) a e
+operated_cut (Condition a) e = refl
+operated_cut (Otherwise a c) e = kept_choice a c e
+operated_cut (Element a) e = refl
+operated_cut (Member f) e = refl
+operated_cut (Bound a) e = refl
+
+operands_if : (b c : Bool) (x : Operands) (y z : Operands) → b ≡ c → x ≡ cut_operands y → (if b then x else cut_operands z) ≡ cut_operands (if c then y else z)
+operands_if b true x y z e h = rw e h
+operands_if b false x y z e h = rw e
+
+reduced_cut : (l : ℕ) (fs : List Frame) (e : Expression) → reduced kept l (cut_frames fs) (kept e) ≡ cut_operands (reduced (λ e. e) l fs e)
+reduced_cut l [] e = refl
+reduced_cut l (f ∷ fs) e =
+    operands_if (binds l (cut_frame f)) (binds l f) _ (reduced (λ e. e) l fs (operated (λ e. e) f e)) (record { frames = f ∷ fs; tree = e }) (binds_cut l f)
+    (ap (reduced kept l (cut_frames fs)) (operated_cut f e) ∙ reduced_cut l fs (operated (λ e. e) f e))
+
+-- ---- one sign more
+
+step_if : (b c : Bool) (s t x y : Step) → b ≡ c → s ≡ cut_step x → t ≡ cut_step y → (if b then s else t) ≡ cut_step (if c then x else y)
+step_if b true s t x y e h k = rw e h
+step_if b false s t x y e h k = rw e k
+
+nested_cut : (room : ℕ) (f : Frame) (fs : List Frame) → nested room (cut_frame f) (cut_frames fs) ≡ cut_step (nested room f fs)
+nested_cut room f fs = step_if (nat_lt (depth (cut_frames fs)) room) (nat_lt (depth fs) room) _ _ (going (f ∷ fs) Wanted) deep (ap (λ n. nat_lt n room) (depth_cut fs)) refl refl
+
+prefixed_cut : (fs : List Frame) (o : Option Prefix) → prefixed (cut_frames fs) o ≡ cut_step (prefixed fs o)
+prefixed_cut fs None = refl
+prefixed_cut fs (Some p) = step_if (nat_le (wanted (cut_frames fs)) (prefix_level p)) (nat_le (wanted fs) (prefix_level p)) _ _ (going (Behind p ∷ fs) Wanted) bad (ap (λ n. nat_le n (prefix_level p)) (wanted_cut fs)) refl refl
+
+called_cut : (fs : List Frame) (o : Option Function) (p : Option Prefix) → called_or (cut_frames fs) o p ≡ cut_step (called_or fs o p)
+called_cut fs None p = prefixed_cut fs p
+called_cut fs (Some f) p = refl
+
+begun_cut : (room : ℕ) (fs : List Frame) (w : List ℕ) → begun room (cut_frames fs) w ≡ cut_step (begun room fs w)
+begun_cut room fs w =
+    step_if (is_leaf w) (is_leaf w) _ _ (going fs (Held (leaf w))) _ refl refl
+    (step_if (is_mark 40 w) (is_mark 40 w) _ _ (nested room Bracket fs) (called_or fs (function_of w) (prefix_of w)) refl (nested_cut room Bracket fs) (called_cut fs (function_of w) (prefix_of w)))
+
+infixed_cut : (o : Operator) (r : Operands) → infixed o (cut_operands r) ≡ cut_step (infixed o r)
+infixed_cut o r = step_if (nat_le (wanted (cut_frames r.frames)) (own_level o)) (nat_le (wanted r.frames) (own_level o)) _ _ (going (Operand o r.tree ∷ r.frames) Wanted) bad (ap (λ n. nat_le n (own_level o)) (wanted_cut r.frames)) refl refl
+
+asked_cut : (r : Operands) → asked (cut_operands r) ≡ cut_step (asked r)
+asked_cut r = step_if (nat_le (wanted (cut_frames r.frames)) 0) (nat_le (wanted r.frames) 0) _ _ (going (Condition r.tree ∷ r.frames) Wanted) bad (ap (λ n. nat_le n 0) (wanted_cut r.frames)) refl refl
+
+elsed_cut : (fs : List Frame) (e : Expression) → elsed_by (cut_frames fs) (kept e) ≡ cut_step (elsed_by fs e)
+elsed_cut [] e = refl
+elsed_cut (Bracket ∷ fs) e = refl
+elsed_cut (Behind p ∷ fs) e = refl
+elsed_cut (Operand o a ∷ fs) e = refl
+elsed_cut (Condition a ∷ fs) e = refl
+elsed_cut (Otherwise a c ∷ fs) e = refl
+elsed_cut (Element a ∷ fs) e = refl
+elsed_cut (Member f ∷ fs) e = refl
+elsed_cut (Bound a ∷ fs) e = refl
+
+closed_cut : (fs : List Frame) (e : Expression) → closed_by kept (cut_frames fs) (kept e) ≡ cut_step (closed_by (λ e. e) fs e)
+closed_cut [] e = refl
+closed_cut (Bracket ∷ fs) e = ap (λ t. going (cut_frames fs) (Held t)) (kept_one bracketed (λ e. refl) e)
+closed_cut (Behind p ∷ fs) e = refl
+closed_cut (Operand o a ∷ fs) e = refl
+closed_cut (Condition a ∷ fs) e = refl
+closed_cut (Otherwise a c ∷ fs) e = refl
+closed_cut (Element a ∷ fs) e = refl
+closed_cut (Member f ∷ fs) e = ap (λ t. going (cut_frames fs) (Held t)) (kept_one (call f) (λ e. refl) e)
+closed_cut (Bound a ∷ fs) e = ap (λ t. going (cut_frames fs) (Held t)) (kept_two span (λ a b. refl) a e)
+
+ended_cut : (fs : List Frame) (e : Expression) → ended_by kept (cut_frames fs) (kept e) ≡ cut_step (ended_by (λ e. e) fs e)
+ended_cut [] e = refl
+ended_cut (Bracket ∷ fs) e = refl
+ended_cut (Behind p ∷ fs) e = refl
+ended_cut (Operand o a ∷ fs) e = refl
+ended_cut (Condition a ∷ fs) e = refl
+ended_cut (Otherwise a c ∷ fs) e = refl
+ended_cut (Member f ∷ fs) e = refl
+ended_cut (Bound a ∷ fs) e = refl
+ended_cut (Element a ∷ fs) e = ap (λ t. going (cut_frames fs) (Held t)) (kept_two index (λ a b. refl) a e)
+
+member_cut : (f : Function) (fs : List Frame) (e : Expression) → member_behind f (cut_frames fs) (kept e) ≡ cut_step (member_behind f fs e)
+member_cut Len fs e = refl
+member_cut Sum fs e = refl
+member_cut Min fs e = refl
+member_cut Max fs e = refl
+member_cut Range fs e = refl
+member_cut Array fs e = refl
+
+parted_cut : (fs : List Frame) (e : Expression) → parted_by (cut_frames fs) (kept e) ≡ cut_step (parted_by fs e)
+parted_cut [] e = refl
+parted_cut (Bracket ∷ fs) e = refl
+parted_cut (Behind p ∷ fs) e = refl
+parted_cut (Operand o a ∷ fs) e = refl
+parted_cut (Condition a ∷ fs) e = refl
+parted_cut (Otherwise a c ∷ fs) e = refl
+parted_cut (Element a ∷ fs) e = refl
+parted_cut (Member f ∷ fs) e = member_cut f fs e
+parted_cut (Bound a ∷ fs) e = refl
+
+gone_cut : (room : ℕ) (fs : List Frame) (e : Expression) (j : Joint) → gone_on kept room (cut_frames fs) (kept e) j ≡ cut_step (gone_on (λ e. e) room fs e j)
+gone_cut room fs e (Infix o) = ap (infixed o) (reduced_cut (left_level o) fs e) ∙ infixed_cut o (reduced (λ e. e) (left_level o) fs e)
+gone_cut room fs e Opening = nested_cut room (Element e) fs
+gone_cut room fs e If = ap asked (reduced_cut 1 fs e) ∙ asked_cut (reduced (λ e. e) 1 fs e)
+gone_cut room fs e Else = ap (λ (r : Operands). elsed_by r.frames r.tree) (reduced_cut 1 fs e) ∙ elsed_cut (reduced (λ e. e) 1 fs e).frames (reduced (λ e. e) 1 fs e).tree
+gone_cut room fs e Closing = ap (λ (r : Operands). closed_by kept r.frames r.tree) (reduced_cut 0 fs e) ∙ closed_cut (reduced (λ e. e) 0 fs e).frames (reduced (λ e. e) 0 fs e).tree
+gone_cut room fs e Ending = ap (λ (r : Operands). ended_by kept r.frames r.tree) (reduced_cut 0 fs e) ∙ ended_cut (reduced (λ e. e) 0 fs e).frames (reduced (λ e. e) 0 fs e).tree
+gone_cut room fs e Comma = ap (λ (r : Operands). parted_by r.frames r.tree) (reduced_cut 0 fs e) ∙ parted_cut (reduced (λ e. e) 0 fs e).frames (reduced (λ e. e) 0 fs e).tree
+gone_cut room fs e Strange = refl
+
+step_cut : (room : ℕ) (fs : List Frame) (m : Mode) (w : List ℕ) → step kept room (cut_frames fs) (cut_mode m) w ≡ cut_step (step (λ e. e) room fs m w)
+step_cut room fs Wanted w = begun_cut room fs w
+step_cut room fs (Calling f) w = step_if (is_mark 40 w) (is_mark 40 w) _ _ (nested room (Member f) fs) bad refl (nested_cut room (Member f) fs) refl
+step_cut room fs (Held e) w = gone_cut room fs e (joint_of w)
+
+-- ---- all signs
+
+whole_cut : (fs : List Frame) (e : Expression) → whole_by (cut_frames fs) (kept e) ≡ cut_read (whole_by fs e)
+whole_cut [] e = refl
+whole_cut (f ∷ fs) e = refl
+
+finished_cut : (fs : List Frame) (m : Mode) → finished kept (cut_frames fs) (cut_mode m) ≡ cut_read (finished (λ e. e) fs m)
+finished_cut fs Wanted = refl
+finished_cut fs (Calling f) = refl
+finished_cut fs (Held e) = ap (λ (r : Operands). whole_by r.frames r.tree) (reduced_cut 0 fs e) ∙ whole_cut (reduced (λ e. e) 0 fs e).frames (reduced (λ e. e) 0 fs e).tree
+
+follow_cut : (s : Step) (f g : List Frame → Mode → Read) → ((gs : List Frame) (n : Mode) → f (cut_frames gs) (cut_mode n) ≡ cut_read (g gs n)) → follow (cut_step s) f ≡ cut_read (follow s g)
+follow_cut (going gs n) f g h = h gs n
+follow_cut bad f g h = refl
+follow_cut deep f g h = refl
+
+run_cut : (room : ℕ) (fs : List Frame) (m : Mode) (ws : List (List ℕ)) → run kept room (cut_frames fs) (cut_mode m) ws ≡ cut_read (run (λ e. e) room fs m ws)
+run_cut room fs m [] = finished_cut fs m
+run_cut room fs m (w ∷ ws) =
+    ap (λ s. follow s (λ gs n. run kept room gs n ws)) (step_cut room fs m w)
+    ∙ follow_cut (step (λ e. e) room fs m w) _ _ (λ gs n. run_cut room gs n ws)
+
+-- what is read, where no tree higher than 128 is kept
+pub keeps : (room : ℕ) (ws : List (List ℕ)) → run kept room [] Wanted ws ≡ cut_read (run (λ e. e) room [] Wanted ws)
+keeps room ws = run_cut room [] Wanted ws

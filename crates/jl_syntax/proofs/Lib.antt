@@ -1,0 +1,11 @@
+pub mod SignLemmas
+pub mod NumberLemmas
+pub mod NameLemmas
+pub mod Completeness
+pub mod Soundness
+pub mod Keeping
+pub mod ReaderLemmas
+pub mod LineLemmas
+pub mod BodyLemmas
+pub mod TextLemmas
+pub mod Deepness

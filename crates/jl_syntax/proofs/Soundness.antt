@@ -1,0 +1,394 @@
+-- What is read from signs is an expression of the grammar, and they write it.
+use Rattle.std.proofs.Common.{◌≡◌, ℕ, zero, suc, ◌+◌, ◌<◌, ◌≤◌, Bool, true, false, List, [], ◌∷◌, ◌++◌, Option, Some, None, refl, sym, ap, ap₂, ◌∙◌, subst, arith, append_assoc, true≢false}
+use Rattle.std.specs.Prelude.{nat_le, nat_lt, if◌then◌else◌}
+use Rattle.std.proofs.lemmas.List.{append-nil}
+use Rattle.std.proofs.lemmas.Slice.Eq.{bytes_eq-Decides}
+use Rattle.std.specs.Str.{bytes_eq}
+use Rattle.jl_syntax.specs.declared.operators.Operator.{Operator}
+use Rattle.jl_syntax.specs.declared.operators.Operator.TheVariants.{Or, And, Equal, Unequal, Less, AtMost, Greater, AtLeast, Plus, Minus, Times, Quotient, Remainder}
+use Rattle.jl_syntax.specs.declared.operators.Prefix.{Prefix}
+use Rattle.jl_syntax.specs.declared.operators.Prefix.TheVariants.{Not, Negative}
+use Rattle.jl_syntax.specs.declared.operators.Function.{Function}
+use Rattle.jl_syntax.specs.declared.operators.Function.TheVariants.{Len, Sum, Min, Max, Range, Array}
+use Rattle.jl_syntax.specs.declared.joint.Joint.{Joint}
+use Rattle.jl_syntax.specs.declared.joint.Joint.TheVariants.{Infix, Opening, If, Else, Closing, Ending, Comma, Strange}
+use Rattle.jl_syntax.specs.declared.machine.Frame.{Frame}
+use Rattle.jl_syntax.specs.declared.machine.Frame.TheVariants.{Bracket, Behind, Operand, Condition, Otherwise, Element, Member, Bound}
+use Rattle.jl_syntax.specs.declared.machine.Mode.{Mode}
+use Rattle.jl_syntax.specs.declared.machine.Mode.TheVariants.{Wanted, Held, Calling}
+use Rattle.jl_syntax.specs.Words.{is_leaf}
+use Rattle.jl_syntax.specs.Marks.{is_mark, operator_word, operator_among, operator_of, prefix_word, prefix_of, function_word, function_among, function_of, if_word, else_word, own_level, left_level, prefix_level}
+use Rattle.jl_syntax.specs.Trees.{Expression, tall, leaf, bracketed, before, between, choice, index, call, span}
+use Rattle.jl_syntax.specs.Grammar.{level, IsFormed, words_of, round_open, round_close, square_open, square_close, comma}
+use Rattle.jl_syntax.specs.Machine.{mark_joint, joint_by, joint_of, wanted_by, wanted, depth, binds, operated, Operands, reduced, Step, going, bad, deep, begun, nested, prefixed, infixed, asked, elsed_by, closed_by, ended_by, member_behind, parted_by, called_or, gone_on, step, Read, read, broken, nested_deep, whole_by, finished, follow, run}
+
+-- ---- which signs are which
+
+found_if : (b : Bool) (w : List ℕ) (p o : Operator) (rest : Option Operator) → (b ≡ true → w ≡ operator_word p) → (rest ≡ Some o → w ≡ operator_word o) → (if b then Some p else rest) ≡ Some o → w ≡ operator_word o
+found_if true w p o rest h k e = let same : p ≡ o = cc in h refl ∙ ap operator_word same
+found_if false w p o rest h k e = k e
+
+found : (os : List Operator) (w : List ℕ) (o : Operator) → operator_among os w ≡ Some o → w ≡ operator_word o
+found [] w o e = absurd (cc)
+found (p ∷ ps) w o e = found_if (bytes_eq w (operator_word p)) w p o (operator_among ps w) (λ h. (bytes_eq-Decides w (operator_word p)).0 h) (found ps w o) e
+
+-- what a sign behind an operand is written as
+abbrev IsJoint : List ℕ → Joint → Type 0
+IsJoint w (Infix o) = w ≡ operator_word o
+IsJoint w Opening = w ≡ square_open
+IsJoint w If = w ≡ if_word
+IsJoint w Else = w ≡ else_word
+IsJoint w Closing = w ≡ round_close
+IsJoint w Ending = w ≡ square_close
+IsJoint w Comma = w ≡ comma
+IsJoint w Strange = Unit {0}
+
+joint_if : (b : Bool) (w : List ℕ) (j k : Joint) → (b ≡ true → IsJoint w j) → IsJoint w k → IsJoint w (if b then j else k)
+joint_if true w j k h r = h refl
+joint_if false w j k h r = r
+
+is_word : (w v : List ℕ) → bytes_eq w v ≡ true → w ≡ v
+is_word w v h = (bytes_eq-Decides w v).0 h
+
+mark_is : (w : List ℕ) → IsJoint w (mark_joint w)
+mark_is w =
+    joint_if (is_mark 91 w) w Opening _ (is_word w square_open)
+    (joint_if (is_mark 41 w) w Closing _ (is_word w round_close)
+    (joint_if (is_mark 93 w) w Ending _ (is_word w square_close)
+    (joint_if (bytes_eq w if_word) w If _ (is_word w if_word)
+    (joint_if (bytes_eq w else_word) w Else _ (is_word w else_word)
+    (joint_if (is_mark 44 w) w Comma Strange (is_word w comma) tt)))))
+
+joint_case : (o : Option Operator) (w : List ℕ) → operator_of w ≡ o → IsJoint w (joint_by o w)
+joint_case None w e = mark_is w
+joint_case (Some o) w e = found (Or ∷ And ∷ Equal ∷ Unequal ∷ Less ∷ AtMost ∷ Greater ∷ AtLeast ∷ Plus ∷ Minus ∷ Times ∷ Quotient ∷ Remainder ∷ []) w o e
+
+joint_is : (w : List ℕ) → IsJoint w (joint_of w)
+joint_is w = joint_case (operator_of w) w refl
+
+abbrev IsPrefix : List ℕ → Option Prefix → Type 0
+IsPrefix w None = Unit {0}
+IsPrefix w (Some p) = w ≡ prefix_word p
+
+prefix_if : (b : Bool) (w : List ℕ) (o q : Option Prefix) → (b ≡ true → IsPrefix w o) → IsPrefix w q → IsPrefix w (if b then o else q)
+prefix_if true w o q h k = h refl
+prefix_if false w o q h k = k
+
+prefix_is : (w : List ℕ) → IsPrefix w (prefix_of w)
+prefix_is w =
+    prefix_if (bytes_eq w (prefix_word Not)) w (Some Not) _ (is_word w (prefix_word Not))
+    (prefix_if (bytes_eq w (prefix_word Negative)) w (Some Negative) None (is_word w (prefix_word Negative)) tt)
+
+call_if : (b : Bool) (w : List ℕ) (p o : Function) (rest : Option Function) → (b ≡ true → w ≡ function_word p) → (rest ≡ Some o → w ≡ function_word o) → (if b then Some p else rest) ≡ Some o → w ≡ function_word o
+call_if true w p o rest h k e = let same : p ≡ o = cc in h refl ∙ ap function_word same
+call_if false w p o rest h k e = k e
+
+function_found : (fs : List Function) (w : List ℕ) (f : Function) → function_among fs w ≡ Some f → w ≡ function_word f
+function_found [] w f e = absurd (cc)
+function_found (p ∷ ps) w f e = call_if (bytes_eq w (function_word p)) w p f (function_among ps w) (is_word w (function_word p)) (function_found ps w f) e
+
+-- ---- levels
+
+left_low : (o : Operator) → left_level o ≤ 8
+left_low Or = omega arith
+left_low And = omega arith
+left_low Equal = omega arith
+left_low Unequal = omega arith
+left_low Less = omega arith
+left_low AtMost = omega arith
+left_low Greater = omega arith
+left_low AtLeast = omega arith
+left_low Plus = omega arith
+left_low Minus = omega arith
+left_low Times = omega arith
+left_low Quotient = omega arith
+left_low Remainder = omega arith
+
+right_low : (o : Operator) → suc (own_level o) ≤ 8
+right_low Or = omega arith
+right_low And = omega arith
+right_low Equal = omega arith
+right_low Unequal = omega arith
+right_low Less = omega arith
+right_low AtMost = omega arith
+right_low Greater = omega arith
+right_low AtLeast = omega arith
+right_low Plus = omega arith
+right_low Minus = omega arith
+right_low Times = omega arith
+right_low Quotient = omega arith
+right_low Remainder = omega arith
+
+prefix_low : (p : Prefix) → prefix_level p ≤ 8
+prefix_low Not = omega arith
+prefix_low Negative = omega arith
+
+wanted_low : (fs : List Frame) → wanted fs ≤ 8
+wanted_low [] = omega arith
+wanted_low (Bracket ∷ fs) = omega arith
+wanted_low (Behind p ∷ fs) = prefix_low p
+wanted_low (Operand o a ∷ fs) = right_low o
+wanted_low (Condition a ∷ fs) = omega arith
+wanted_low (Otherwise a c ∷ fs) = omega arith
+wanted_low (Element a ∷ fs) = omega arith
+wanted_low (Member f ∷ fs) = omega arith
+wanted_low (Bound a ∷ fs) = omega arith
+
+le_of : (a b : ℕ) → nat_le a b ≡ true → a ≤ b
+le_of a b h = grind arith
+
+-- ---- what waits is part of an expression
+
+-- a frame above one that waits for an operand of this level
+abbrev IsFrame : Frame → ℕ → Type 0
+IsFrame Bracket n = Unit {0}
+IsFrame (Behind p) n = n ≤ prefix_level p
+IsFrame (Operand o a) n = (n ≤ own_level o) × (left_level o ≤ level a) × IsFormed a
+IsFrame (Condition a) n = (n ≤ 0) × (1 ≤ level a) × IsFormed a
+IsFrame (Otherwise a c) n = (n ≤ 0) × (1 ≤ level a) × IsFormed a × (1 ≤ level c) × IsFormed c
+IsFrame (Element a) n = (8 ≤ level a) × IsFormed a
+IsFrame (Member f) n = Unit {0}
+IsFrame (Bound a) n = IsFormed a
+
+abbrev IsSound : List Frame → Type 0
+IsSound [] = Unit {0}
+IsSound (f ∷ fs) = IsFrame f (wanted fs) × IsSound fs
+
+-- the signs that were read for a frame
+abbrev frame_words : Frame → List (List ℕ)
+frame_words Bracket = round_open ∷ []
+frame_words (Behind p) = prefix_word p ∷ []
+frame_words (Operand o a) = words_of a ++ operator_word o ∷ []
+frame_words (Condition a) = words_of a ++ if_word ∷ []
+frame_words (Otherwise a c) = words_of a ++ if_word ∷ (words_of c ++ else_word ∷ [])
+frame_words (Element a) = words_of a ++ square_open ∷ []
+frame_words (Member f) = function_word f ∷ round_open ∷ []
+frame_words (Bound a) = function_word Range ∷ round_open ∷ (words_of a ++ comma ∷ [])
+
+abbrev spelled : List Frame → List (List ℕ)
+spelled [] = []
+spelled (f ∷ fs) = spelled fs ++ frame_words f
+
+abbrev IsMode : Mode → Type 0
+IsMode Wanted = Unit {0}
+IsMode (Held e) = IsFormed e × (8 ≤ level e)
+IsMode (Calling f) = Unit {0}
+
+-- the signs that were read
+abbrev all_words : List Frame → Mode → List (List ℕ)
+all_words fs Wanted = spelled fs
+all_words fs (Held e) = spelled fs ++ words_of e
+all_words fs (Calling f) = spelled fs ++ function_word f ∷ []
+
+abbrev IsGood : List (List ℕ) → Step → Type 0
+IsGood ws (going gs n) = IsSound gs × IsMode n × (all_words gs n ≡ ws)
+IsGood ws bad = Unit {0}
+IsGood ws deep = Unit {0}
+
+good_if : (ws : List (List ℕ)) (b : Bool) (s t : Step) → (b ≡ true → IsGood ws s) → IsGood ws t → IsGood ws (if b then s else t)
+good_if ws true s t h k = h refl
+good_if ws false s t h k = k
+
+-- ---- operations that are done
+
+record Done (l : ℕ) (ws : List (List ℕ)) (r : Operands) : Type 0 where
+  sound : IsSound r.frames
+  formed : IsFormed r.tree
+  fits : wanted r.frames ≤ level r.tree
+  high : l ≤ level r.tree
+  words : spelled r.frames ++ words_of r.tree ≡ ws
+
+-- the same signs, grouped otherwise
+regroup : (a b c : List (List ℕ)) (w : List ℕ) → a ++ (b ++ w ∷ c) ≡ (a ++ (b ++ w ∷ [])) ++ c
+regroup a b c w = ap (λ x. a ++ x) (sym (append_assoc b (w ∷ []) c)) ∙ sym (append_assoc a (b ++ w ∷ []) c)
+
+record Made (l : ℕ) (f : Frame) (fs : List Frame) (e : Expression) : Type 0 where
+  formed : IsFormed (operated (λ e. e) f e)
+  fits : wanted fs ≤ level (operated (λ e. e) f e)
+  high : l ≤ level (operated (λ e. e) f e)
+  words : spelled fs ++ words_of (operated (λ e. e) f e) ≡ spelled (f ∷ fs) ++ words_of e
+
+choice_words : (s a c e : List (List ℕ)) → s ++ (a ++ if_word ∷ (c ++ else_word ∷ e)) ≡ (s ++ (a ++ if_word ∷ (c ++ else_word ∷ []))) ++ e
+choice_words s a c e =
+    ap (λ x. s ++ (a ++ if_word ∷ x)) (sym (append_assoc c (else_word ∷ []) e))
+    ∙ ap (λ x. s ++ x) (sym (append_assoc a (if_word ∷ (c ++ else_word ∷ [])) e))
+    ∙ sym (append_assoc s (a ++ if_word ∷ (c ++ else_word ∷ [])) e)
+
+made : (l : ℕ) (f : Frame) (fs : List Frame) (e : Expression) → binds l f ≡ true → IsFrame f (wanted fs) → IsFormed e → wanted_by f ≤ level e → Made l f fs e
+made l Bracket fs e b s h k = absurd (true≢false (sym b))
+made l (Behind p) fs e b s h k = record { formed = (k, h); fits = s; high = le_of l (prefix_level p) b; words = sym (append_assoc (spelled fs) (prefix_word p ∷ []) (words_of e)) }
+made l (Operand o a) fs e b s h k = record { formed = (s.1, s.2, k, h); fits = s.0; high = le_of l (own_level o) b; words = regroup (spelled fs) (words_of a) (words_of e) (operator_word o) }
+made l (Condition a) fs e b s h k = absurd (true≢false (sym b))
+made l (Otherwise a c) fs e b s h k = record { formed = (s.1, s.2, s.3, s.4, h); fits = s.0; high = le_of l 0 b; words = choice_words (spelled fs) (words_of a) (words_of c) (words_of e) }
+made l (Element a) fs e b s h k = absurd (true≢false (sym b))
+made l (Member f) fs e b s h k = absurd (true≢false (sym b))
+made l (Bound a) fs e b s h k = absurd (true≢false (sym b))
+
+reduce_by : (b : Bool) (l : ℕ) (f : Frame) (fs : List Frame) (e : Expression) → binds l f ≡ b → IsSound (f ∷ fs) → IsFormed e → wanted_by f ≤ level e → l ≤ level e
+    → ((t : Expression) → IsFormed t → wanted fs ≤ level t → l ≤ level t → Done l (spelled fs ++ words_of t) (reduced (λ e. e) l fs t))
+    → Done l (spelled (f ∷ fs) ++ words_of e) (if b then reduced (λ e. e) l fs (operated (λ e. e) f e) else record { frames = f ∷ fs; tree = e })
+reduce_by true l f fs e b s h k low more =
+    let m = made l f fs e b s.0 h k in
+    subst (λ (ws : List (List ℕ)). Done l ws (reduced (λ e. e) l fs (operated (λ e. e) f e))) m.words (more (operated (λ e. e) f e) m.formed m.fits m.high)
+reduce_by false l f fs e b s h k low more = record { sound = s; formed = h; fits = k; high = low; words = refl }
+
+reduces : (l : ℕ) (fs : List Frame) (e : Expression) → IsSound fs → IsFormed e → wanted fs ≤ level e → l ≤ level e → Done l (spelled fs ++ words_of e) (reduced (λ e. e) l fs e)
+reduces l [] e s h k low = record { sound = s; formed = h; fits = k; high = low; words = refl }
+reduces l (f ∷ fs) e s h k low = reduce_by (binds l f) l f fs e refl s h k low (λ t. reduces l fs t s.1)
+
+-- ---- one sign more
+
+nested_good : (ws : List (List ℕ)) (room : ℕ) (f : Frame) (fs : List Frame) → IsSound (f ∷ fs) → spelled (f ∷ fs) ≡ ws → IsGood ws (nested room f fs)
+nested_good ws room f fs s e = good_if ws (nat_lt (depth fs) room) (going (f ∷ fs) Wanted) deep (λ h. (s, tt, e)) tt
+
+prefixed_good : (w : List ℕ) (fs : List Frame) (o : Option Prefix) → IsPrefix w o → IsSound fs → IsGood (spelled fs ++ w ∷ []) (prefixed fs o)
+prefixed_good w fs None h s = tt
+prefixed_good w fs (Some p) h s = good_if _ (nat_le (wanted fs) (prefix_level p)) (going (Behind p ∷ fs) Wanted) bad (λ k. ((le_of (wanted fs) (prefix_level p) k, s), tt, ap (λ v. spelled fs ++ v ∷ []) (sym h))) tt
+
+called_good : (w : List ℕ) (fs : List Frame) (o : Option Function) (p : Option Prefix) → function_of w ≡ o → IsPrefix w p → IsSound fs → IsGood (spelled fs ++ w ∷ []) (called_or fs o p)
+called_good w fs None p e h s = prefixed_good w fs p h s
+called_good w fs (Some f) p e h s = (s, tt, ap (λ v. spelled fs ++ v ∷ []) (sym (function_found (Len ∷ Sum ∷ Min ∷ Max ∷ Range ∷ Array ∷ []) w f e)))
+
+begun_good : (room : ℕ) (fs : List Frame) (w : List ℕ) → IsSound fs → IsGood (spelled fs ++ w ∷ []) (begun room fs w)
+begun_good room fs w s =
+    good_if _ (is_leaf w) (going fs (Held (leaf w))) _ (λ h. (s, (h, omega arith), refl))
+    (good_if _ (is_mark 40 w) (nested room Bracket fs) _ (λ h. nested_good _ room Bracket fs (tt, s) (ap (λ v. spelled fs ++ v ∷ []) (sym (is_word w round_open h))))
+    (called_good w fs (function_of w) (prefix_of w) refl (prefix_is w) s))
+
+-- the signs so far, with one more behind the operand
+one_more : (s a ws : List (List ℕ)) (w v : List ℕ) → s ++ a ≡ ws → w ≡ v → s ++ (a ++ v ∷ []) ≡ ws ++ w ∷ []
+one_more s a ws w v e h = sym (append_assoc s a (v ∷ [])) ∙ ap₂ (λ x y. x ++ y ∷ []) e (sym h)
+
+infixed_good : (o : Operator) (ws : List (List ℕ)) (w : List ℕ) (r : Operands) → Done (left_level o) ws r → w ≡ operator_word o → IsGood (ws ++ w ∷ []) (infixed o r)
+infixed_good o ws w r d h =
+    good_if _ (nat_le (wanted r.frames) (own_level o)) (going (Operand o r.tree ∷ r.frames) Wanted) bad
+    (λ k. (((le_of (wanted r.frames) (own_level o) k, d.high, d.formed), d.sound), tt, one_more (spelled r.frames) (words_of r.tree) ws w (operator_word o) d.words h)) tt
+
+asked_good : (ws : List (List ℕ)) (w : List ℕ) (r : Operands) → Done 1 ws r → w ≡ if_word → IsGood (ws ++ w ∷ []) (asked r)
+asked_good ws w r d h =
+    good_if _ (nat_le (wanted r.frames) 0) (going (Condition r.tree ∷ r.frames) Wanted) bad
+    (λ k. (((le_of (wanted r.frames) 0 k, d.high, d.formed), d.sound), tt, one_more (spelled r.frames) (words_of r.tree) ws w if_word d.words h)) tt
+
+else_words : (s a t ws : List (List ℕ)) (w : List ℕ) → (s ++ (a ++ if_word ∷ [])) ++ t ≡ ws → w ≡ else_word → s ++ (a ++ if_word ∷ (t ++ else_word ∷ [])) ≡ ws ++ w ∷ []
+else_words s a t ws w e h = regroup s a (t ++ else_word ∷ []) if_word ∙ one_more (s ++ (a ++ if_word ∷ [])) t ws w else_word e h
+
+elsed_good : (ws : List (List ℕ)) (w : List ℕ) (fs : List Frame) (t : Expression) → IsSound fs → IsFormed t → 1 ≤ level t → spelled fs ++ words_of t ≡ ws → w ≡ else_word → IsGood (ws ++ w ∷ []) (elsed_by fs t)
+elsed_good ws w [] t s h k e v = tt
+elsed_good ws w (Bracket ∷ fs) t s h k e v = tt
+elsed_good ws w (Behind p ∷ fs) t s h k e v = tt
+elsed_good ws w (Operand o a ∷ fs) t s h k e v = tt
+elsed_good ws w (Condition a ∷ fs) t s h k e v = (((s.0.0, s.0.1, s.0.2, k, h), s.1), tt, else_words (spelled fs) (words_of a) (words_of t) ws w e v)
+elsed_good ws w (Otherwise a c ∷ fs) t s h k e v = tt
+elsed_good ws w (Element a ∷ fs) t s h k e v = tt
+elsed_good ws w (Member f ∷ fs) t s h k e v = tt
+elsed_good ws w (Bound a ∷ fs) t s h k e v = tt
+
+span_words : (s a c : List (List ℕ)) → s ++ function_word Range ∷ round_open ∷ (a ++ comma ∷ c) ≡ (s ++ function_word Range ∷ round_open ∷ (a ++ comma ∷ [])) ++ c
+span_words s a c = ap (λ x. s ++ function_word Range ∷ round_open ∷ x) (sym (append_assoc a (comma ∷ []) c)) ∙ sym (append_assoc s (function_word Range ∷ round_open ∷ (a ++ comma ∷ [])) c)
+
+bound_words : (s t ws : List (List ℕ)) (w : List ℕ) → (s ++ function_word Range ∷ round_open ∷ []) ++ t ≡ ws → w ≡ comma → s ++ function_word Range ∷ round_open ∷ (t ++ comma ∷ []) ≡ ws ++ w ∷ []
+bound_words s t ws w e h = sym (append_assoc s (function_word Range ∷ round_open ∷ []) (t ++ comma ∷ [])) ∙ one_more (s ++ function_word Range ∷ round_open ∷ []) t ws w comma e h
+
+member_good : (ws : List (List ℕ)) (w : List ℕ) (f : Function) (fs : List Frame) (t : Expression) → IsSound fs → IsFormed t → (spelled fs ++ function_word f ∷ round_open ∷ []) ++ words_of t ≡ ws → w ≡ comma → IsGood (ws ++ w ∷ []) (member_behind f fs t)
+member_good ws w Len fs t s h e v = tt
+member_good ws w Sum fs t s h e v = tt
+member_good ws w Min fs t s h e v = tt
+member_good ws w Max fs t s h e v = tt
+member_good ws w Range fs t s h e v = ((h, s), tt, bound_words (spelled fs) (words_of t) ws w e v)
+member_good ws w Array fs t s h e v = tt
+
+parted_good : (ws : List (List ℕ)) (w : List ℕ) (fs : List Frame) (t : Expression) → IsSound fs → IsFormed t → spelled fs ++ words_of t ≡ ws → w ≡ comma → IsGood (ws ++ w ∷ []) (parted_by fs t)
+parted_good ws w [] t s h e v = tt
+parted_good ws w (Bracket ∷ fs) t s h e v = tt
+parted_good ws w (Behind p ∷ fs) t s h e v = tt
+parted_good ws w (Operand o a ∷ fs) t s h e v = tt
+parted_good ws w (Condition a ∷ fs) t s h e v = tt
+parted_good ws w (Otherwise a c ∷ fs) t s h e v = tt
+parted_good ws w (Element a ∷ fs) t s h e v = tt
+parted_good ws w (Member f ∷ fs) t s h e v = member_good ws w f fs t s.1 h e v
+parted_good ws w (Bound a ∷ fs) t s h e v = tt
+
+closed_good : (ws : List (List ℕ)) (w : List ℕ) (fs : List Frame) (t : Expression) → IsSound fs → IsFormed t → spelled fs ++ words_of t ≡ ws → w ≡ round_close → IsGood (ws ++ w ∷ []) (closed_by (λ e. e) fs t)
+closed_good ws w [] t s h e v = tt
+closed_good ws w (Bracket ∷ fs) t s h e v = (s.1, (h, omega arith), sym (append_assoc (spelled fs) (round_open ∷ []) (words_of t ++ round_close ∷ [])) ∙ one_more (spelled fs ++ round_open ∷ []) (words_of t) ws w round_close e v)
+closed_good ws w (Behind p ∷ fs) t s h e v = tt
+closed_good ws w (Operand o a ∷ fs) t s h e v = tt
+closed_good ws w (Condition a ∷ fs) t s h e v = tt
+closed_good ws w (Otherwise a c ∷ fs) t s h e v = tt
+closed_good ws w (Element a ∷ fs) t s h e v = tt
+closed_good ws w (Member f ∷ fs) t s h e v = (s.1, (h, omega arith), sym (append_assoc (spelled fs) (function_word f ∷ round_open ∷ []) (words_of t ++ round_close ∷ [])) ∙ one_more (spelled fs ++ function_word f ∷ round_open ∷ []) (words_of t) ws w round_close e v)
+closed_good ws w (Bound a ∷ fs) t s h e v = (s.1, ((s.0, h), omega arith), span_words (spelled fs) (words_of a) (words_of t ++ round_close ∷ []) ∙ one_more (spelled fs ++ function_word Range ∷ round_open ∷ (words_of a ++ comma ∷ [])) (words_of t) ws w round_close e v)
+
+ended_good : (ws : List (List ℕ)) (w : List ℕ) (fs : List Frame) (t : Expression) → IsSound fs → IsFormed t → spelled fs ++ words_of t ≡ ws → w ≡ square_close → IsGood (ws ++ w ∷ []) (ended_by (λ e. e) fs t)
+ended_good ws w [] t s h e v = tt
+ended_good ws w (Bracket ∷ fs) t s h e v = tt
+ended_good ws w (Behind p ∷ fs) t s h e v = tt
+ended_good ws w (Operand o a ∷ fs) t s h e v = tt
+ended_good ws w (Condition a ∷ fs) t s h e v = tt
+ended_good ws w (Otherwise a c ∷ fs) t s h e v = tt
+ended_good ws w (Member f ∷ fs) t s h e v = tt
+ended_good ws w (Bound a ∷ fs) t s h e v = tt
+ended_good ws w (Element a ∷ fs) t s h e v = (s.1, ((s.0.0, s.0.1, h), omega arith), regroup (spelled fs) (words_of a) (words_of t ++ square_close ∷ []) square_open ∙ one_more (spelled fs ++ (words_of a ++ square_open ∷ [])) (words_of t) ws w square_close e v)
+
+gone_good : (room : ℕ) (fs : List Frame) (e : Expression) (j : Joint) (w : List ℕ) → IsJoint w j → IsSound fs → IsFormed e → 8 ≤ level e → IsGood ((spelled fs ++ words_of e) ++ w ∷ []) (gone_on (λ e. e) room fs e j)
+gone_good room fs e (Infix o) w j s h k =
+    let low = wanted_low fs in let left = left_low o in
+    infixed_good o _ w (reduced (λ e. e) (left_level o) fs e) (reduces (left_level o) fs e s h (omega arith) (omega arith)) j
+gone_good room fs e Opening w j s h k = nested_good _ room (Element e) fs ((k, h), s) (one_more (spelled fs) (words_of e) _ w square_open refl j)
+gone_good room fs e If w j s h k =
+    let low = wanted_low fs in
+    asked_good _ w (reduced (λ e. e) 1 fs e) (reduces 1 fs e s h (omega arith) (omega arith)) j
+gone_good room fs e Else w j s h k =
+    let low = wanted_low fs in
+    let d = reduces 1 fs e s h (omega arith) (omega arith) in
+    elsed_good _ w (reduced (λ e. e) 1 fs e).frames (reduced (λ e. e) 1 fs e).tree d.sound d.formed d.high d.words j
+gone_good room fs e Closing w j s h k =
+    let low = wanted_low fs in
+    let d = reduces 0 fs e s h (omega arith) (omega arith) in
+    closed_good _ w (reduced (λ e. e) 0 fs e).frames (reduced (λ e. e) 0 fs e).tree d.sound d.formed d.words j
+gone_good room fs e Ending w j s h k =
+    let low = wanted_low fs in
+    let d = reduces 0 fs e s h (omega arith) (omega arith) in
+    ended_good _ w (reduced (λ e. e) 0 fs e).frames (reduced (λ e. e) 0 fs e).tree d.sound d.formed d.words j
+gone_good room fs e Comma w j s h k =
+    let low = wanted_low fs in
+    let d = reduces 0 fs e s h (omega arith) (omega arith) in
+    parted_good _ w (reduced (λ e. e) 0 fs e).frames (reduced (λ e. e) 0 fs e).tree d.sound d.formed d.words j
+gone_good room fs e Strange w j s h k = tt
+
+calling_good : (room : ℕ) (f : Function) (fs : List Frame) (w : List ℕ) → IsSound fs → IsGood ((spelled fs ++ function_word f ∷ []) ++ w ∷ []) (if is_mark 40 w then nested room (Member f) fs else bad)
+calling_good room f fs w s = good_if _ (is_mark 40 w) (nested room (Member f) fs) bad (λ h. nested_good _ room (Member f) fs (tt, s) (sym (append_assoc (spelled fs) (function_word f ∷ []) (round_open ∷ [])) ∙ ap (λ v. (spelled fs ++ function_word f ∷ []) ++ v ∷ []) (sym (is_word w round_open h)))) tt
+
+step_good : (room : ℕ) (fs : List Frame) (m : Mode) (w : List ℕ) → IsSound fs → IsMode m → IsGood (all_words fs m ++ w ∷ []) (step (λ e. e) room fs m w)
+step_good room fs Wanted w s h = begun_good room fs w s
+step_good room fs (Calling f) w s h = calling_good room f fs w s
+step_good room fs (Held e) w s h = gone_good room fs e (joint_of w) w (joint_is w) s h.0 h.1
+
+-- ---- all signs
+
+whole_good : (fs : List Frame) (t u : Expression) (ws : List (List ℕ)) → IsFormed t → spelled fs ++ words_of t ≡ ws → whole_by fs t ≡ read u → IsFormed u × (words_of u ≡ ws)
+whole_good [] t u ws h e r = let same : t ≡ u = cc in subst (λ (v : Expression). IsFormed v × (words_of v ≡ ws)) same (h, e)
+whole_good (f ∷ fs) t u ws h e r = absurd (cc)
+
+finish_good : (fs : List Frame) (m : Mode) (u : Expression) → IsSound fs → IsMode m → finished (λ e. e) fs m ≡ read u → IsFormed u × (words_of u ≡ all_words fs m)
+finish_good fs Wanted u s h r = absurd (cc)
+finish_good fs (Calling f) u s h r = absurd (cc)
+finish_good fs (Held e) u s h r =
+    let low = wanted_low fs in let high = h.1 in
+    let d = reduces 0 fs e s h.0 (omega arith) (omega arith) in
+    whole_good (reduced (λ e. e) 0 fs e).frames (reduced (λ e. e) 0 fs e).tree u _ d.formed d.words r
+
+follow_good : (st : Step) (ws rest : List (List ℕ)) (u : Expression) (next : List Frame → Mode → Read) → IsGood ws st → ((gs : List Frame) (n : Mode) → IsSound gs → IsMode n → next gs n ≡ read u → IsFormed u × (words_of u ≡ all_words gs n ++ rest)) → follow st next ≡ read u → IsFormed u × (words_of u ≡ ws ++ rest)
+follow_good (going gs n) ws rest u next g more r = let d = more gs n g.0 g.1 r in (d.0, d.1 ∙ ap (λ x. x ++ rest) g.2)
+follow_good bad ws rest u next g more r = absurd (cc)
+follow_good deep ws rest u next g more r = absurd (cc)
+
+pub run_good : (room : ℕ) (fs : List Frame) (m : Mode) (ws : List (List ℕ)) (u : Expression) → IsSound fs → IsMode m → run (λ e. e) room fs m ws ≡ read u → IsFormed u × (words_of u ≡ all_words fs m ++ ws)
+run_good room fs m [] u s h r = let d = finish_good fs m u s h r in (d.0, d.1 ∙ sym (append-nil (all_words fs m)))
+run_good room fs m (w ∷ ws) u s h r =
+    let d = follow_good (step (λ e. e) room fs m w) (all_words fs m ++ w ∷ []) ws u (λ gs n. run (λ e. e) room gs n ws) (step_good room fs m w s h) (λ gs n t k. run_good room gs n ws u t k) r in
+    (d.0, d.1 ∙ append_assoc (all_words fs m) (w ∷ []) ws)
+
+-- what is read is an expression of the grammar, written by these signs
+pub sound : (room : ℕ) (ws : List (List ℕ)) (u : Expression) → run (λ e. e) room [] Wanted ws ≡ read u → IsFormed u × (words_of u ≡ ws)
+sound room ws u r = run_good room [] Wanted ws u tt tt r

@@ -1,0 +1,21 @@
+-- What the reader of an expression answers.
+use Rattle.std.specs.Prelude.{◌≡◌, Result, Ok, Err, ⊤}
+use Rattle.jl_syntax.specs.declared.machine.Reader.{Reader}
+use Rattle.jl_syntax.specs.declared.machine.Stop.{Stop}
+use Rattle.jl_syntax.specs.declared.machine.Stop.TheVariants.{Bad, Deep, NoMemory}
+use Rattle.jl_syntax.specs.Trees.{Expression}
+use Rattle.jl_syntax.specs.Machine.{Step, going, bad, deep, Read, read, broken, nested_deep}
+
+-- one sign more
+abbrev pub IsStep : Result Reader Stop → Step → Type 0
+IsStep (Ok r) s = s ≡ going r.stack r.mode
+IsStep (Err Bad) s = s ≡ bad
+IsStep (Err Deep) s = s ≡ deep
+IsStep (Err NoMemory) s = ⊤
+
+-- all signs
+abbrev pub IsRead : Result Expression Stop → Read → Type 0
+IsRead (Ok t) r = r ≡ read t
+IsRead (Err Bad) r = r ≡ broken
+IsRead (Err Deep) r = r ≡ nested_deep
+IsRead (Err NoMemory) r = ⊤

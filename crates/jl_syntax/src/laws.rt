@@ -1,0 +1,30 @@
+ghost use Rattle.std.specs.Prelude.{◌≡◌, ◌≢◌, ◌≤◌, List, ℕ};
+ghost use Rattle.jl_syntax.specs.Trees.{Expression};
+ghost use Rattle.jl_syntax.specs.Headings.{Heading, with_body, judged};
+ghost use Rattle.jl_syntax.specs.Grammar.{Writes, brackets};
+ghost use Rattle.jl_syntax.specs.Machine.{read_signs, read, broken};
+
+/// Signs write one expression at most.
+pub fn signs_write_one_expression()
+    ensures { (ws : List (List ℕ)) (a b : Expression) → Writes ws a → Writes ws b → a ≡ b }
+{}
+
+/// What is read from signs is an expression that they write.
+pub fn what_is_read_is_written()
+    ensures { (ws : List (List ℕ)) (e : Expression) → read_signs ws ≡ read e → Writes ws e }
+{}
+
+/// An expression that signs write, with at most 128 brackets nested, is read from them.
+pub fn what_is_written_is_read()
+    ensures { (ws : List (List ℕ)) (e : Expression) → Writes ws e → brackets e ≤ 128 → read_signs ws ≡ read e }
+{}
+
+/// A line of the grammar is judged by its tree.
+pub fn a_line_is_judged_by_its_tree()
+    ensures { (h : Heading) (e : Expression) → Writes h.body e → with_body h (read_signs h.body) ≡ judged h e }
+{}
+
+/// Only signs that no expression writes are broken.
+pub fn what_is_written_is_not_broken()
+    ensures { (ws : List (List ℕ)) (e : Expression) → Writes ws e → read_signs ws ≢ broken }
+{}

@@ -1,0 +1,599 @@
+ghost use Rattle.std.specs.Prelude.{◌≡◌, ◌∷◌, [], ◌<◌, ◌≤◌, ◌+◌, length, IfOk, IfSome, OnOk, MatchOption, MatchResult, IsTrue, true, false, nat_le};
+ghost use Rattle.jl_syntax.specs.Machine.{wanted_by as wanted_by_of, wanted as wanted_of, is_bracket as is_bracket_of, depth as depth_of, binds as binds_of, top_binds as top_binds_of, operated as operated_of, kept, reduced as reduced_of, nested, prefixed as prefixed_of, begun as begun_of, infixed as infixed_of, asked as asked_of, elsed_by, closed_by, ended_by, parted_by, called as called_of, gone_on as gone_on_of, step as step_of, finished, whole_by};
+ghost use Rattle.jl_syntax.specs.Steps.{IsStep, IsRead};
+ghost use Rattle.jl_syntax.specs.declared.machine.Mode.TheVariants.{Wanted};
+ghost use Rattle.jl_syntax.specs.Marks.{own_level as own_level_of, left_level as left_level_of, prefix_level as prefix_level_of};
+
+use crate::joint::{Joint, function, prefix, read_joint};
+use crate::lexer::is_mark;
+use crate::operators::{Function, Operator, Prefix};
+use crate::tree::Tree;
+use crate::word::Word;
+use std::alloc::{AllocError, Global};
+use std::marker::Model;
+
+/// What waits for an operand.
+#[derive(Drop)]
+pub(crate) enum Frame<'a> {
+    Bracket,
+    Behind(Prefix),
+    Operand(Operator, Tree<'a>),
+    Condition(Tree<'a>),
+    Otherwise(Tree<'a>, Tree<'a>),
+    Element(Tree<'a>),
+    Member(Function),
+    Bound(Tree<'a>),
+}
+
+/// Whether an operand is wanted or was just read.
+#[derive(Drop)]
+pub(crate) enum Mode<'a> {
+    Wanted,
+    Held(Tree<'a>),
+    Calling(Function),
+}
+
+/// The frames that wait, and how many brackets among them are open.
+#[derive(Drop)]
+pub(crate) struct Stack<'a> {
+    frames: Vec<Frame<'a>>,
+    depth: u32,
+}
+
+impl<'a> Model for Stack<'a> {
+    ghost use Rattle.std.specs.Prelude.{◌≡◌, ◌≤◌, List, reverse};
+    ghost use Rattle.jl_syntax.specs.declared.machine.Frame.{Frame};
+    ghost use Rattle.jl_syntax.specs.Machine.{depth as depth_of};
+    ghost use Rattle.jl_syntax.specs.FrameCodes.{coded_frames};
+
+    ghost Value = { List Frame };
+
+    ghost coded = { coded_frames };
+
+    ghost view = { λ s. reverse s.frames.items };
+
+    ghost invariant = { λ s. (s.depth ≡ depth_of (reverse s.frames.items)) × (s.depth ≤ 128) };
+}
+
+pub(crate) fn own_level(operator: Operator) -> u32
+    ensures { result ≡ own_level_of operator }
+{
+    match operator {
+        Operator::Or => 1,
+        Operator::And => 2,
+        Operator::Equal
+        | Operator::Unequal
+        | Operator::Less
+        | Operator::AtMost
+        | Operator::Greater
+        | Operator::AtLeast => 4,
+        Operator::Plus | Operator::Minus => 5,
+        Operator::Times | Operator::Quotient | Operator::Remainder => 6,
+    }
+}
+
+pub(crate) fn left_level(operator: Operator) -> u32
+    ensures { result ≡ left_level_of operator }
+{
+    match operator {
+        Operator::Or => 1,
+        Operator::And => 2,
+        Operator::Equal
+        | Operator::Unequal
+        | Operator::Less
+        | Operator::AtMost
+        | Operator::Greater
+        | Operator::AtLeast
+        | Operator::Plus
+        | Operator::Minus => 5,
+        Operator::Times | Operator::Quotient | Operator::Remainder => 6,
+    }
+}
+
+pub(crate) fn prefix_level(prefix: Prefix) -> u32
+    ensures { result ≡ prefix_level_of prefix }
+{
+    match prefix {
+        Prefix::Not => 3,
+        Prefix::Negative => 7,
+    }
+}
+
+fn wanted_by(frame: &Frame) -> u32
+    ensures { result ≡ wanted_by_of frame.now }
+{
+    match frame {
+        Frame::Bracket => 0,
+        Frame::Behind(prefix) => prefix_level(*prefix),
+        Frame::Operand(operator, _) => own_level(*operator) + 1,
+        Frame::Condition(_) => 1,
+        Frame::Otherwise(_, _) => 0,
+        Frame::Element(_) => 0,
+        Frame::Member(_) => 0,
+        Frame::Bound(_) => 0,
+    }
+}
+
+fn is_bracket(frame: &Frame) -> bool
+    ensures { result ≡ is_bracket_of frame.now }
+{
+    match frame {
+        Frame::Bracket => true,
+        Frame::Behind(_) => false,
+        Frame::Operand(_, _) => false,
+        Frame::Condition(_) => false,
+        Frame::Otherwise(_, _) => false,
+        Frame::Element(_) => true,
+        Frame::Member(_) => true,
+        Frame::Bound(_) => true,
+    }
+}
+
+fn binds(level: u32, frame: &Frame) -> bool
+    ensures { result ≡ binds_of level frame.now }
+{
+    match frame {
+        Frame::Bracket => false,
+        Frame::Behind(prefix) => level <= prefix_level(*prefix),
+        Frame::Operand(operator, _) => level <= own_level(*operator),
+        Frame::Condition(_) => false,
+        Frame::Otherwise(_, _) => level == 0,
+        Frame::Element(_) => false,
+        Frame::Member(_) => false,
+        Frame::Bound(_) => false,
+    }
+}
+
+fn operated<'a>(alloc: Global, frame: Frame<'a>, last: Tree<'a>) -> Result<Tree<'a>, AllocError>
+    ensures { IfOk result (λ t. t ≡ operated_of kept frame.entry last.entry) }
+{
+    match frame {
+        Frame::Bracket => Ok(last),
+        Frame::Behind(prefix) => Tree::before(alloc, prefix, last),
+        Frame::Operand(operator, first) => Tree::between(alloc, operator, first, last),
+        Frame::Condition(_) => Ok(last),
+        Frame::Otherwise(first, condition) => Tree::choice(alloc, first, condition, last),
+        Frame::Element(_) => Ok(last),
+        Frame::Member(_) => Ok(last),
+        Frame::Bound(_) => Ok(last),
+    }
+}
+
+impl<'a> Stack<'a> {
+    pub(crate) fn new(alloc: Global) -> Stack<'a>
+        ensures { result ≡ [] }
+    {
+        Stack {
+            frames: Vec::new(alloc),
+            depth: 0,
+        }
+    }
+
+    /// How many brackets are open.
+    pub(crate) fn depth(&self) -> u32
+        ensures same { result ≡ depth_of self.now }
+        ensures low { result ≤ 128 }
+    {
+        self.depth
+    }
+
+    /// The lowest level of the operand that is waited for.
+    pub(crate) fn wanted(&self) -> u32
+        ensures { result ≡ wanted_of self.now }
+    {
+        match self.frames.last() {
+            Some(frame) => wanted_by(frame),
+            None => 0,
+        }
+    }
+
+    fn top_binds(&self, level: u32) -> bool
+        ensures { result ≡ top_binds_of level self.now }
+    {
+        match self.frames.last() {
+            Some(frame) => binds(level, frame),
+            None => false,
+        }
+    }
+
+    /// One frame more, which is no bracket.
+    pub(crate) fn push(self, frame: Frame<'a>) -> Result<Stack<'a>, AllocError>
+        requires { is_bracket_of frame ≡ false }
+        ensures { IfOk result (λ s. s ≡ frame.entry ∷ self.entry) }
+    {
+        let Stack { mut frames, depth } = self;
+        frames.push(frame)?;
+        Ok(Stack { frames, depth })
+    }
+
+    /// One bracket more.
+    pub(crate) fn open(self, frame: Frame<'a>) -> Result<Stack<'a>, AllocError>
+        requires bracket { is_bracket_of frame ≡ true }
+        requires room { depth_of self < 128 }
+        ensures { IfOk result (λ s. s ≡ frame.entry ∷ self.entry) }
+    {
+        let Stack { mut frames, depth } = self;
+        frames.push(frame)?;
+        Ok(Stack {
+            frames,
+            depth: depth + 1,
+        })
+    }
+
+    /// The topmost frame and the others, where it binds before an operator.
+    fn pop_bound(self, level: u32) -> Result<(Frame<'a>, Stack<'a>), Stack<'a>>
+        ensures { MatchResult result (λ r. (self.entry ≡ r.0 ∷ r.1) × (binds_of level r.0 ≡ true)) (λ s. (s ≡ self.entry) × (top_binds_of level s ≡ false)) }
+    {
+        if !self.top_binds(level) {
+            return Err(self);
+        }
+        let Stack { mut frames, depth } = self;
+        match frames.pop() {
+            Some(frame) => Ok((frame, Stack { frames, depth })),
+            None => Err(Stack { frames, depth }),
+        }
+    }
+
+    /// The topmost frame, and the others.
+    pub(crate) fn pop(self) -> Option<(Frame<'a>, Stack<'a>)>
+        ensures parts { MatchOption result (self.entry ≡ []) (λ r. self.entry ≡ r.0 ∷ r.1) }
+        ensures room { IfSome result (λ r. is_bracket_of r.0 ≡ true → depth_of r.1 < 128) }
+    {
+        let Stack { mut frames, depth } = self;
+        match frames.pop() {
+            Some(frame) => {
+                let open = if is_bracket(&frame) { depth - 1 } else { depth };
+                Some((
+                    frame,
+                    Stack {
+                        frames,
+                        depth: open,
+                    },
+                ))
+            }
+            None => None,
+        }
+    }
+}
+
+/// The frames that are left, and the operand.
+#[derive(Drop)]
+pub(crate) struct Operands<'a> {
+    stack: Stack<'a>,
+    tree: Tree<'a>,
+}
+
+/// What was read of an expression so far.
+#[derive(Drop)]
+pub(crate) struct Reader<'a> {
+    stack: Stack<'a>,
+    mode: Mode<'a>,
+}
+
+/// Why there is no expression.
+#[derive(Clone, Copy, Drop)]
+pub(crate) enum Stop {
+    Bad,
+    Deep,
+    NoMemory,
+}
+
+impl From<AllocError> for Stop {
+    ghost use Rattle.jl_syntax.specs.declared.machine.Stop.TheVariants.{NoMemory};
+    ghost use Rattle.std.specs.Prelude.{◌≡◌};
+
+    ghost from_gives = { λ _ e. e ≡ NoMemory };
+
+    fn from(_refused: AllocError) -> Stop {
+        Stop::NoMemory
+    }
+}
+
+fn reduced<'a>(
+    alloc: Global,
+    level: u32,
+    start: Stack<'a>,
+    last: Tree<'a>,
+) -> Result<Operands<'a>, AllocError>
+    ensures { IfOk result (λ r. reduced_of kept level start.entry last.entry ≡ record { frames = r.stack; tree = r.tree }) }
+{
+    let mut stack = start;
+    let mut tree = last;
+    'operations: loop {
+        match stack.pop_bound(level) {
+            Ok((frame, rest)) => {
+                tree = operated(alloc, frame, tree)?;
+                stack = rest;
+            }
+            Err(stack) => return Ok(Operands { stack, tree }),
+        }
+    }
+}
+
+fn opened<'a>(frame: Frame<'a>, stack: Stack<'a>) -> Result<Reader<'a>, Stop>
+    requires { is_bracket_of frame ≡ true }
+    ensures { IsStep result (nested 128 frame.entry stack.entry) }
+{
+    if stack.depth() >= 128 {
+        return Err(Stop::Deep);
+    }
+    Ok(Reader {
+        stack: stack.open(frame)?,
+        mode: Mode::Wanted,
+    })
+}
+
+fn prefixed<'a>(stack: Stack<'a>, prefix: Option<Prefix>) -> Result<Reader<'a>, Stop>
+    ensures { IsStep result (prefixed_of stack.entry prefix) }
+{
+    let Some(prefix) = prefix else {
+        return Err(Stop::Bad);
+    };
+    if stack.wanted() > prefix_level(prefix) {
+        return Err(Stop::Bad);
+    }
+    Ok(Reader {
+        stack: stack.push(Frame::Behind(prefix))?,
+        mode: Mode::Wanted,
+    })
+}
+
+fn begun<'a>(alloc: Global, stack: Stack<'a>, sign: &'a [u8]) -> Result<Reader<'a>, Stop>
+    ensures { IsStep result (begun_of 128 stack.entry sign.now) }
+{
+    if let Some(word) = Word::read(alloc, sign)? {
+        return Ok(Reader {
+            stack,
+            mode: Mode::Held(Tree::leaf(word)),
+        });
+    }
+    if is_mark(sign, b'(') {
+        return opened(Frame::Bracket, stack);
+    }
+    if let Some(function) = function(sign) {
+        return Ok(Reader {
+            stack,
+            mode: Mode::Calling(function),
+        });
+    }
+    prefixed(stack, prefix(sign))
+}
+
+fn called<'a>(function: Function, stack: Stack<'a>, sign: &[u8]) -> Result<Reader<'a>, Stop>
+    ensures { IsStep result (called_of 128 function stack.entry sign.now) }
+{
+    if is_mark(sign, b'(') {
+        opened(Frame::Member(function), stack)
+    } else {
+        Err(Stop::Bad)
+    }
+}
+
+fn infixed<'a>(operator: Operator, operands: Operands<'a>) -> Result<Reader<'a>, Stop>
+    ensures { IsStep result (infixed_of operator (record { frames = operands.entry.stack; tree = operands.entry.tree })) }
+{
+    let Operands { stack, tree } = operands;
+    if stack.wanted() > own_level(operator) {
+        return Err(Stop::Bad);
+    }
+    Ok(Reader {
+        stack: stack.push(Frame::Operand(operator, tree))?,
+        mode: Mode::Wanted,
+    })
+}
+
+fn asked(operands: Operands<'_>) -> Result<Reader<'_>, Stop>
+    ensures { IsStep result (asked_of (record { frames = operands.entry.stack; tree = operands.entry.tree })) }
+{
+    let Operands { stack, tree } = operands;
+    if stack.wanted() > 0 {
+        return Err(Stop::Bad);
+    }
+    Ok(Reader {
+        stack: stack.push(Frame::Condition(tree))?,
+        mode: Mode::Wanted,
+    })
+}
+
+// An `else` behind what waits on top.
+fn elsed_at<'a>(frame: Frame<'a>, stack: Stack<'a>, tree: Tree<'a>) -> Result<Reader<'a>, Stop>
+    ensures { IsStep result (elsed_by (frame.entry ∷ stack.entry) tree.entry) }
+{
+    match frame {
+        Frame::Condition(first) => Ok(Reader {
+            stack: stack.push(Frame::Otherwise(first, tree))?,
+            mode: Mode::Wanted,
+        }),
+        Frame::Bracket => Err(Stop::Bad),
+        Frame::Behind(_) => Err(Stop::Bad),
+        Frame::Operand(_, _) => Err(Stop::Bad),
+        Frame::Otherwise(_, _) => Err(Stop::Bad),
+        Frame::Element(_) => Err(Stop::Bad),
+        Frame::Member(_) => Err(Stop::Bad),
+        Frame::Bound(_) => Err(Stop::Bad),
+    }
+}
+
+fn elsed(operands: Operands<'_>) -> Result<Reader<'_>, Stop>
+    ensures { IsStep result (elsed_by operands.entry.stack operands.entry.tree) }
+{
+    let Operands { stack, tree } = operands;
+    match stack.pop() {
+        Some((frame, rest)) => elsed_at(frame, rest, tree),
+        None => Err(Stop::Bad),
+    }
+}
+
+// A `)` behind what waits on top.
+fn closed_at<'a>(
+    alloc: Global,
+    frame: Frame<'a>,
+    stack: Stack<'a>,
+    tree: Tree<'a>,
+) -> Result<Reader<'a>, Stop>
+    ensures { IsStep result (closed_by kept (frame.entry ∷ stack.entry) tree.entry) }
+{
+    match frame {
+        Frame::Bracket => Ok(Reader {
+            stack,
+            mode: Mode::Held(Tree::bracketed(alloc, tree)?),
+        }),
+        Frame::Member(function) => Ok(Reader {
+            stack,
+            mode: Mode::Held(Tree::call(alloc, function, tree)?),
+        }),
+        Frame::Bound(first) => Ok(Reader {
+            stack,
+            mode: Mode::Held(Tree::span(alloc, first, tree)?),
+        }),
+        Frame::Behind(_) => Err(Stop::Bad),
+        Frame::Operand(_, _) => Err(Stop::Bad),
+        Frame::Condition(_) => Err(Stop::Bad),
+        Frame::Otherwise(_, _) => Err(Stop::Bad),
+        Frame::Element(_) => Err(Stop::Bad),
+    }
+}
+
+fn closed<'a>(alloc: Global, operands: Operands<'a>) -> Result<Reader<'a>, Stop>
+    ensures { IsStep result (closed_by kept operands.entry.stack operands.entry.tree) }
+{
+    let Operands { stack, tree } = operands;
+    match stack.pop() {
+        Some((frame, rest)) => closed_at(alloc, frame, rest, tree),
+        None => Err(Stop::Bad),
+    }
+}
+
+// A `]` behind what waits on top.
+fn ended_at<'a>(
+    alloc: Global,
+    frame: Frame<'a>,
+    stack: Stack<'a>,
+    tree: Tree<'a>,
+) -> Result<Reader<'a>, Stop>
+    ensures { IsStep result (ended_by kept (frame.entry ∷ stack.entry) tree.entry) }
+{
+    match frame {
+        Frame::Element(whole) => Ok(Reader {
+            stack,
+            mode: Mode::Held(Tree::index(alloc, whole, tree)?),
+        }),
+        Frame::Bracket => Err(Stop::Bad),
+        Frame::Behind(_) => Err(Stop::Bad),
+        Frame::Operand(_, _) => Err(Stop::Bad),
+        Frame::Condition(_) => Err(Stop::Bad),
+        Frame::Otherwise(_, _) => Err(Stop::Bad),
+        Frame::Member(_) => Err(Stop::Bad),
+        Frame::Bound(_) => Err(Stop::Bad),
+    }
+}
+
+fn ended<'a>(alloc: Global, operands: Operands<'a>) -> Result<Reader<'a>, Stop>
+    ensures { IsStep result (ended_by kept operands.entry.stack operands.entry.tree) }
+{
+    let Operands { stack, tree } = operands;
+    match stack.pop() {
+        Some((frame, rest)) => ended_at(alloc, frame, rest, tree),
+        None => Err(Stop::Bad),
+    }
+}
+
+// A `,` behind what waits on top.
+fn parted_at<'a>(frame: Frame<'a>, stack: Stack<'a>, tree: Tree<'a>) -> Result<Reader<'a>, Stop>
+    requires { is_bracket_of frame ≡ true → depth_of stack < 128 }
+    ensures { IsStep result (parted_by (frame.entry ∷ stack.entry) tree.entry) }
+{
+    match frame {
+        Frame::Member(Function::Range) => Ok(Reader {
+            stack: stack.open(Frame::Bound(tree))?,
+            mode: Mode::Wanted,
+        }),
+        Frame::Member(_) => Err(Stop::Bad),
+        Frame::Bracket => Err(Stop::Bad),
+        Frame::Behind(_) => Err(Stop::Bad),
+        Frame::Operand(_, _) => Err(Stop::Bad),
+        Frame::Condition(_) => Err(Stop::Bad),
+        Frame::Otherwise(_, _) => Err(Stop::Bad),
+        Frame::Element(_) => Err(Stop::Bad),
+        Frame::Bound(_) => Err(Stop::Bad),
+    }
+}
+
+fn parted(operands: Operands<'_>) -> Result<Reader<'_>, Stop>
+    ensures { IsStep result (parted_by operands.entry.stack operands.entry.tree) }
+{
+    let Operands { stack, tree } = operands;
+    match stack.pop() {
+        Some((frame, rest)) => parted_at(frame, rest, tree),
+        None => Err(Stop::Bad),
+    }
+}
+
+fn gone_on<'a>(
+    alloc: Global,
+    stack: Stack<'a>,
+    tree: Tree<'a>,
+    joint: Joint,
+) -> Result<Reader<'a>, Stop>
+    ensures { IsStep result (gone_on_of kept 128 stack.entry tree.entry joint) }
+{
+    match joint {
+        Joint::Infix(operator) => infixed(
+            operator,
+            reduced(alloc, left_level(operator), stack, tree)?,
+        ),
+        Joint::Opening => opened(Frame::Element(tree), stack),
+        Joint::If => asked(reduced(alloc, 1, stack, tree)?),
+        Joint::Else => elsed(reduced(alloc, 1, stack, tree)?),
+        Joint::Closing => closed(alloc, reduced(alloc, 0, stack, tree)?),
+        Joint::Ending => ended(alloc, reduced(alloc, 0, stack, tree)?),
+        Joint::Comma => parted(reduced(alloc, 0, stack, tree)?),
+        Joint::Strange => Err(Stop::Bad),
+    }
+}
+
+fn whole(operands: Operands<'_>) -> Result<Tree<'_>, Stop>
+    ensures { IsRead result (whole_by operands.entry.stack operands.entry.tree) }
+{
+    let Operands { stack, tree } = operands;
+    match stack.pop() {
+        Some(_) => Err(Stop::Bad),
+        None => Ok(tree),
+    }
+}
+
+impl<'a> Reader<'a> {
+    pub(crate) fn new(alloc: Global) -> Reader<'a>
+        ensures stack { result.stack ≡ [] }
+        ensures mode { result.mode ≡ Wanted }
+    {
+        Reader {
+            stack: Stack::new(alloc),
+            mode: Mode::Wanted,
+        }
+    }
+
+    /// After one more sign.
+    pub(crate) fn step(self, alloc: Global, sign: &'a [u8]) -> Result<Reader<'a>, Stop>
+        ensures { IsStep result (step_of kept 128 self.entry.stack self.entry.mode sign.now) }
+    {
+        let Reader { stack, mode } = self;
+        match mode {
+            Mode::Wanted => begun(alloc, stack, sign),
+            Mode::Held(tree) => gone_on(alloc, stack, tree, read_joint(sign)),
+            Mode::Calling(function) => called(function, stack, sign),
+        }
+    }
+
+    /// The tree of what was read, if it is whole.
+    pub(crate) fn finish(self, alloc: Global) -> Result<Tree<'a>, Stop>
+        ensures { IsRead result (finished kept self.entry.stack self.entry.mode) }
+    {
+        let Reader { stack, mode } = self;
+        match mode {
+            Mode::Wanted => Err(Stop::Bad),
+            Mode::Calling(_) => Err(Stop::Bad),
+            Mode::Held(tree) => whole(reduced(alloc, 0, stack, tree)?),
+        }
+    }
+}

@@ -1,0 +1,178 @@
+ghost use Rattle.std.specs.Prelude.{◌≡◌, ◌≤◌, IfOk, max, suc};
+ghost use Rattle.jl_syntax.specs.Trees.{leaf, bracketed, before, between, choice, index, call, span, height as height_of};
+ghost use Rattle.jl_syntax.specs.Machine.{kept as kept_of};
+ghost use Rattle.jl_syntax.specs.Form.{expression_of};
+
+use crate::operators::{Function, Operator, Prefix};
+use crate::word::Word;
+use std::alloc::{AllocError, Global};
+use std::marker::Model;
+
+/// The tree of an expression, over the bytes that it was read of.
+#[cycle(tree)]
+#[derive(Drop)]
+pub struct Tree<'a> {
+    height: u32,
+    node: Node<'a>,
+}
+
+/// One level of a tree.
+#[cycle(tree)]
+#[derive(Drop)]
+pub enum Node<'a> {
+    Tall,
+    Leaf(Word<'a>),
+    Bracketed(Box<Tree<'a>>),
+    Before(Prefix, Box<Tree<'a>>),
+    Between(Operator, Box<Tree<'a>>, Box<Tree<'a>>),
+    Choice(Box<Tree<'a>>, Box<Tree<'a>>, Box<Tree<'a>>),
+    Index(Box<Tree<'a>>, Box<Tree<'a>>),
+    Call(Function, Box<Tree<'a>>),
+    Span(Box<Tree<'a>>, Box<Tree<'a>>),
+}
+
+impl<'a> Model for Tree<'a> {
+    ghost use Rattle.std.specs.Prelude.{◌≡◌, ◌≤◌};
+    ghost use Rattle.jl_syntax.specs.Trees.{Expression, height as height_of};
+    ghost use Rattle.jl_syntax.specs.Codes.{coded_expression};
+
+    ghost Value = { Expression };
+
+    ghost coded = { coded_expression };
+
+    ghost use Rattle.jl_syntax.specs.Form.{expression_of};
+
+    ghost view = { λ t. expression_of t.node };
+
+    ghost invariant = { λ t. (t.height ≡ height_of (expression_of t.node)) × (t.height ≤ 129) };
+
+    ghost size = { height_of };
+
+    ghost use Rattle.std.proofs.Common.{arith};
+
+    ghost size_decreases = { λ a h. Prim.grind (arith) };
+}
+
+// What is kept of a node that is this high.
+fn kept(node: Node<'_>, height: u32) -> Tree<'_>
+    requires { height ≡ height_of (expression_of node) }
+    ensures { result ≡ kept_of (expression_of node.entry) }
+{
+    if height > 128 {
+        return Tree {
+            height: 129,
+            node: Node::Tall,
+        };
+    }
+    Tree { height, node }
+}
+
+impl<'a> Tree<'a> {
+    /// How high the tree is, up to 129.
+    pub fn height(&self) -> u32
+        ensures same { result ≡ height_of self.now }
+        ensures low { result ≤ 129 }
+    {
+        self.height
+    }
+
+    /// What stands at the top.
+    pub fn node(&self) -> &Node<'a>
+        ensures { expression_of result.now ≡ self.now }
+    {
+        &self.node
+    }
+
+    pub(crate) fn leaf(word: Word<'a>) -> Tree<'a>
+        ensures { result ≡ leaf word.entry }
+    {
+        Tree {
+            height: 0,
+            node: Node::Leaf(word),
+        }
+    }
+
+    pub(crate) fn bracketed(alloc: Global, inner: Tree<'a>) -> Result<Tree<'a>, AllocError>
+        ensures { IfOk result (λ t. t ≡ kept_of (bracketed inner.entry)) }
+    {
+        let height = inner.height() + 1;
+        Ok(kept(Node::Bracketed(Box::new(alloc, inner)?), height))
+    }
+
+    pub(crate) fn before(
+        alloc: Global,
+        prefix: Prefix,
+        inner: Tree<'a>,
+    ) -> Result<Tree<'a>, AllocError>
+        ensures { IfOk result (λ t. t ≡ kept_of (before prefix inner.entry)) }
+    {
+        let height = inner.height() + 1;
+        Ok(kept(Node::Before(prefix, Box::new(alloc, inner)?), height))
+    }
+
+    pub(crate) fn between(
+        alloc: Global,
+        operator: Operator,
+        left: Tree<'a>,
+        right: Tree<'a>,
+    ) -> Result<Tree<'a>, AllocError>
+        ensures { IfOk result (λ t. t ≡ kept_of (between operator left.entry right.entry)) }
+    {
+        let height = left.height().max(right.height()) + 1;
+        let left = Box::new(alloc, left)?;
+        let right = Box::new(alloc, right)?;
+        Ok(kept(Node::Between(operator, left, right), height))
+    }
+
+    pub(crate) fn choice(
+        alloc: Global,
+        first: Tree<'a>,
+        condition: Tree<'a>,
+        last: Tree<'a>,
+    ) -> Result<Tree<'a>, AllocError>
+        ensures { IfOk result (λ t. t ≡ kept_of (choice first.entry condition.entry last.entry)) }
+    {
+        let height = first.height().max(condition.height().max(last.height())) + 1;
+        let first = Box::new(alloc, first)?;
+        let condition = Box::new(alloc, condition)?;
+        let last = Box::new(alloc, last)?;
+        Ok(kept(Node::Choice(first, condition, last), height))
+    }
+
+    pub(crate) fn index(
+        alloc: Global,
+        whole: Tree<'a>,
+        at: Tree<'a>,
+    ) -> Result<Tree<'a>, AllocError>
+        ensures { IfOk result (λ t. t ≡ kept_of (index whole.entry at.entry)) }
+    {
+        let height = whole.height().max(at.height()) + 1;
+        let whole = Box::new(alloc, whole)?;
+        let at = Box::new(alloc, at)?;
+        Ok(kept(Node::Index(whole, at), height))
+    }
+
+    pub(crate) fn call(
+        alloc: Global,
+        function: Function,
+        member: Tree<'a>,
+    ) -> Result<Tree<'a>, AllocError>
+        ensures { IfOk result (λ t. t ≡ kept_of (call function member.entry)) }
+    {
+        let height = member.height() + 1;
+        Ok(kept(Node::Call(function, Box::new(alloc, member)?), height))
+    }
+
+    pub(crate) fn span(
+        alloc: Global,
+        first: Tree<'a>,
+        end: Tree<'a>,
+    ) -> Result<Tree<'a>, AllocError>
+        ensures { IfOk result (λ t. t ≡ kept_of (span first.entry end.entry)) }
+    {
+        let height = first.height().max(end.height()) + 1;
+        let first = Box::new(alloc, first)?;
+        let end = Box::new(alloc, end)?;
+        Ok(kept(Node::Span(first, end), height))
+    }
+}
