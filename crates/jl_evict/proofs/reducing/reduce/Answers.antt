@@ -1,0 +1,28 @@
+use Rattle.std.proofs.Common.{◌≡◌, List, take, subst, sym}
+use Rattle.jl_claims.specs.Claims.{Anywhere}
+use Rattle.jl_clear.specs.Clearing.{Clears}
+use Rattle.jl_evict.specs.declared.item.Item.{Item}
+use Rattle.jl_evict.specs.declared.reducing.Reduced.{Reduced}
+use Rattle.jl_evict.specs.declared.reducing.Reduced.TheVariants as reduced
+use Rattle.jl_evict.specs.Reducing.{ArePaths, Chosen, IsReport, IsReportOf}
+use Rattle.jl_evict.proofs.ReduceLemmas.{paths_chosen}
+use Rattle.jl_evict.proofs.reducing.reduce.Goals as goal
+
+pub report-requires : goal.report-requires
+report-requires g c =
+    let k = c.choose-count.result in
+    subst (λ (xs : List Item). ArePaths (take k xs)) (sym c.as_slice.ensures.value) (paths_chosen c.args.items.items c.choose-count.new.items.items k c.choose-count.ensures.permutation c.requires)
+
+pub returns : goal.returns
+returns g c =
+    let k = c.choose-count.result in
+    let r = c.report.result in
+    record {
+      items = c.choose-count.new.items.items;
+      same = c.choose-count.ensures.permutation;
+      count = k;
+      choice = record { order = c.choose-count.ensures.order; shortest = c.choose-count.ensures.count };
+      paths = paths_chosen c.args.items.items c.choose-count.new.items.items k c.choose-count.ensures.permutation c.requires;
+      reports = subst (λ (xs : List Item). IsReportOf (take k xs) r) c.as_slice.ensures.value c.report.ensures.reports;
+      clears = subst (λ (xs : List Item). Clears g.F.Folder.token g.F.Folder.told g.F.Folder.history g.F.Folder.opens g.F.Folder.faults c.args.root.now Anywhere (Chosen c.args.root.now (take k xs)) (Chosen c.args.root.now (take k xs)) (IsReport r) (r ≡ reduced.FolderFault) c.args.folder.now c.report.new.folder) c.as_slice.ensures.value c.report.ensures.clears;
+    }

@@ -1,0 +1,28 @@
+use Rattle.std.proofs.Common.{◌≡◌, ◌+◌, ◌∙◌, ◌++◌, ℕ, List, ◌∷◌, [], take, refl, sym, ap, subst, arith, inl, inr, add-one}
+use Rattle.jl_folder.specs.declared.listing.Name.{Name}
+use Rattle.jl_text.specs.Paths.{PathView}
+use Rattle.jl_entry.specs.Names.{IsBelow, below}
+use Rattle.jl_claims.specs.Claims.{Anywhere}
+use Rattle.jl_clear.specs.Taking.{IsNameOf, IsKeyName}
+use Rattle.jl_evict.specs.declared.walk.Walk.{Walk}
+use Rattle.jl_evict.specs.declared.walk.Walk.TheVariants as walk
+use Rattle.jl_evict.specs.Walks.{Tells, Adds, Pushes, IsAt, IsSizedEntry, Listing, Under, AreDistinct, IsRootParts, IsModuleParts, IsFunctionParts, IsMeasured, IsMeasureFault, Accessed, Summed}
+use Rattle.jl_evict.specs.Items.{IsEntryParts}
+use Rattle.jl_evict.specs.declared.measure.Measure.TheVariants as measure
+use Rattle.jl_entry.specs.Names.{entry_part}
+use Rattle.jl_entry.specs.declared.names.EntryFile.TheVariants.{Access}
+use Rattle.jl_evict.specs.Items.{HasAccess}
+use Rattle.jl_evict.proofs.WalkLemmas.{adds_sized, adds_failed}
+use Rattle.jl_evict.proofs.walk.add_sized.Goals as goal
+
+pub returns-in-Number : goal.returns-in-Number
+returns-in-Number g c = λ root at.
+    adds_sized g.F.Folder.token g.F.Folder.told g.F.Folder.history g.F.Folder.opens g.F.Folder.faults root c.args.place.now c.args.bytes c.in-Number.access c.push_item.result (Unit {0}) ⊥ c.args.items.now.items c.push_item.new.items.items c.args.folder.now c.entry_access.new.folder at c.push_item.ensures tt (λ f. f) c.in-Number.ensures
+
+pub returns-in-Fault : goal.returns-in-Fault
+returns-in-Fault g c = λ root at.
+    adds_failed g.F.Folder.token g.F.Folder.told g.F.Folder.history g.F.Folder.opens g.F.Folder.faults root Anywhere (IsSizedEntry c.args.place.now.folder c.args.bytes) (IsBelow c.args.place.now.name) (IsMeasured measure.Fault) (walk.Fault ≡ walk.Done) (IsMeasureFault measure.Fault) (walk.Fault ≡ walk.Fault) (Accessed (c.args.place.now.folder ++ entry_part Access ∷ []) measure.Fault) c.args.items.now.items c.args.folder.now c.entry_access.new.folder (λ d. cc) (λ f. tt) c.in-Fault.ensures
+
+pub returns-in-NoMemory : goal.returns-in-NoMemory
+returns-in-NoMemory g c = λ root at.
+    adds_failed g.F.Folder.token g.F.Folder.told g.F.Folder.history g.F.Folder.opens g.F.Folder.faults root Anywhere (IsSizedEntry c.args.place.now.folder c.args.bytes) (IsBelow c.args.place.now.name) (IsMeasured measure.NoMemory) (walk.NoMemory ≡ walk.Done) (IsMeasureFault measure.NoMemory) (walk.NoMemory ≡ walk.Fault) (Accessed (c.args.place.now.folder ++ entry_part Access ∷ []) measure.NoMemory) c.args.items.now.items c.args.folder.now c.entry_access.new.folder (λ d. cc) (λ f. cc) c.in-NoMemory.ensures

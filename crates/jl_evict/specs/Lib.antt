@@ -1,0 +1,4 @@
+pub mod Choosing
+pub mod Items
+pub mod Reducing
+pub mod Walks
