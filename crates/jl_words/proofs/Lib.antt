@@ -8,3 +8,4 @@ pub mod ParsedSteps
 pub mod ParsedWords
 pub mod Settled
 pub mod Suffixes
+pub mod Targeted

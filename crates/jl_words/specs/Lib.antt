@@ -5,4 +5,5 @@ pub mod Parsing
 pub mod Parts
 pub mod Reading
 pub mod Settings
+pub mod Targets
 pub mod Values

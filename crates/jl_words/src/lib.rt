@@ -13,7 +13,7 @@ mod types;
 mod values;
 mod words;
 
-pub use law::modules_have_names;
+pub use law::{modules_have_names, targets_have_names};
 pub use module::module_name;
 pub use types::{Backend, Mode, Settings, SettingsFault};
 pub use words::settings;
