@@ -1,5 +1,5 @@
 -- What a run rests on and owes, over its cache folder.
-use Rattle.std.proofs.Common.{◌≡◌, ◌≢◌, ◌∙◌, ℕ, List, [], ◌∷◌, ◌++◌, append_assoc, arith, suc, Bool, true, false, ◌&&◌, not, cond, Option, Some, None, IsSome, IsTrue, refl, sym, ap, subst, true≢false}
+use Rattle.std.proofs.Common.{◌≡◌, ◌≢◌, ◌∙◌, ◌⊎◌, inl, inr, ℕ, List, [], ◌∷◌, ◌++◌, append_assoc, arith, suc, Bool, true, false, ◌&&◌, not, cond, Option, Some, None, IsSome, IsTrue, refl, sym, ap, subst, true≢false}
 use Rattle.std.specs.Prelude.{◌+◌, ◌<◌, length, take}
 use Rattle.std.proofs.Math.ListN.{get_or}
 use Rattle.std.proofs.Math.Seq.{take-suc}
@@ -10,10 +10,12 @@ use Rattle.jl_laws.proofs.Before.{one_value, some_not_none, some_of}
 use Rattle.jl_store.specs.declared.memory.Warning.{Warning}
 use Rattle.jl_store.specs.Warnings.{warning_text}
 use Rattle.jl_cmd.specs.Texts.{warning_lines}
+use Rattle.jl_cmd.specs.Calling.{Course}
+use Rattle.jl_cmd.specs.Saying.{GivenLines}
 use Rattle.jl_folder.specs.State.{State, Trace, History, IsTrace, now, since, run}
 use Rattle.jl_folder.specs.Reading.{ReadsNamed}
 use Rattle.jl_claims.specs.Steps.{AllSteps, Throughout, OwnMoves}
-use Rattle.jl_claims.specs.Claims.{Called, Silent}
+use Rattle.jl_claims.specs.Claims.{Called, GoesOn, Silent}
 use Rattle.jl_claims.proofs.Since.{since_went, went_none, since_then}
 use Rattle.jl_claims.proofs.Traces.{with_others}
 use Rattle.jl_claims.proofs.Composed.{called_went}
@@ -29,18 +31,22 @@ use Rattle.jl_words.specs.Settings.{settings_of}
 use Rattle.jl_words.proofs.Settled.{all_named}
 use Rattle.jl_words.specs.declared.types.Settings.{Settings}
 use Rattle.jl_words.specs.declared.types.Settings.TheVariants.{Call, Hash, Parallel, Session, Clear, ReduceSize, Worker, Tracker, Gen}
-use Rattle.jl_cmd.specs.Commands.{Command, call, hash, command_of}
+use Rattle.jl_cmd.specs.Commands.{Command, call, hash, clear, reduce_size, tracker, command_of}
+use Rattle.jl_cmd.proofs.TrackerMoves.{runs_no_lines}
+use Rattle.jl_words.proofs.Targeted.{all_targets}
+use Rattle.jl_cmd.proofs.ClearEnds.{runs_no_clearing}
+use Rattle.jl_cmd.proofs.ReduceEnds.{runs_no_reducing}
 use Rattle.jl_cmd.specs.Caches.{TrustsCache, GivenTrusts, OthersAreLawful, OwnIsLawful, RunsLawfully, HasModule, GivenHasModule}
 
 -- a call's moves are those of its settings' run
-pub runs_call : (answer : Answers) (token : List ℕ) (file location : PathView) (name args : List ℕ) (old new : History) → Lawfully (root_of location) answer token old new → RunsLawfully (Some (call file location name args)) answer token old new
+pub runs_call : (answer : Answers) (tells : Type 0) (input token : List ℕ) (file location : PathView) (name args : List ℕ) (old new : History) → Lawfully (root_of location) answer token old new → RunsLawfully (Some (call file location name args)) answer tells input token old new
 unfolding LawfulThroughout
-runs_call answer token file location name args old new done = record { start = done.start; trace = done.trace; allowed = done.lawful; own = done.owes }
+runs_call answer tells input token file location name args old new done = record { start = done.start; trace = done.trace; allowed = done.lawful; own = done.owes }
 
 -- without a move
-pub runs_idle : (s : Option Command) (answer : Answers) (token : List ℕ) (h : History) → OwnIsLawful s answer token h h ≡ OwnMoves token Silent (since h h) → RunsLawfully s answer token h h
+pub runs_idle : (s : Option Command) (answer : Answers) (tells : Type 0) (input token : List ℕ) (h : History) → OwnIsLawful s answer tells input token h h ≡ OwnMoves token Silent (since h h) → RunsLawfully s answer tells input token h h
 unfolding OwnMoves
-runs_idle s answer token h is =
+runs_idle s answer tells input token h is =
     let none : [] ≡ since h h = sym (since_went h h [] (went_none h)) in
     record {
       start = refl;
@@ -50,22 +56,28 @@ runs_idle s answer token h is =
     }
 
 -- and nothing done keeps every rule
-pub runs_nothing : (given : Option Command) (answer : Answers) (token : List ℕ) (h : History) → RunsLawfully given answer token h h
-runs_nothing None answer token h = runs_idle None answer token h refl
-runs_nothing (Some (call file location name args)) answer token h = runs_call answer token file location name args h h (lawful_none (root_of location) answer token h)
-runs_nothing (Some (hash args)) answer token h = runs_idle (Some (hash args)) answer token h refl
+pub runs_nothing : (given : Option Command) (answer : Answers) (tells : Type 0) (input token : List ℕ) (h : History) → RunsLawfully given answer tells input token h h
+runs_nothing None answer tells input token h = runs_idle None answer tells input token h refl
+runs_nothing (Some (call file location name args)) answer tells input token h = runs_call answer tells input token file location name args h h (lawful_none (root_of location) answer token h)
+runs_nothing (Some (hash args)) answer tells input token h = runs_idle (Some (hash args)) answer tells input token h refl
+runs_nothing (Some (clear location m f key)) answer tells input token h = runs_no_clearing answer tells input token location m f key h
+runs_nothing (Some (reduce_size location limits)) answer tells input token h = runs_no_reducing answer tells input token location limits h
+runs_nothing (Some tracker) answer tells input token h = runs_no_lines answer tells input token h
 
 -- where others keep their rules and this run its own, the cache may be trusted
-pub trusting : (s : Command) (answer : Answers) (told : Type 0) (token : List ℕ) (old new : History) → OthersAreLawful s answer told token old new → RunsLawfully (Some s) answer token old new → TrustsCache s answer told old new
+pub trusting : (s : Command) (answer : Answers) (told tells : Type 0) (input token : List ℕ) (old new : History) → OthersAreLawful s answer told tells token old new → RunsLawfully (Some s) answer tells input token old new → TrustsCache s answer told tells old new
 unfolding LawfulThroughout
-trusting (call file location name args) answer told token old new theirs mine =
+trusting (call file location name args) answer told tells input token old new theirs mine =
     (theirs.told, theirs.sound, with_others (IsLawful (root_of location) answer) token (now old) (since old new) (λ t. same_token t token) (mine.own theirs.sound) theirs.others)
-trusting (hash args) answer told token old new theirs mine = tt
+trusting (hash args) answer told tells input token old new theirs mine = tt
+trusting (clear location m f key) answer told tells input token old new theirs mine = tt
+trusting (reduce_size location limits) answer told tells input token old new theirs mine = tt
+trusting tracker answer told tells input token old new theirs mine = theirs.input
 
-pub trusting_given : (given : Option Command) (s : Command) (answer : Answers) (told : Type 0) (token : List ℕ) (old new : History) → given ≡ Some s → OthersAreLawful s answer told token old new → RunsLawfully given answer token old new → GivenTrusts given answer told old new
-trusting_given given s answer told token old new is theirs mine =
-    subst (λ (g : Option Command). GivenTrusts g answer told old new) (sym is)
-    (trusting s answer told token old new theirs (subst (λ (g : Option Command). RunsLawfully g answer token old new) is mine))
+pub trusting_given : (given : Option Command) (s : Command) (answer : Answers) (told tells : Type 0) (input token : List ℕ) (old new : History) → given ≡ Some s → OthersAreLawful s answer told tells token old new → RunsLawfully given answer tells input token old new → GivenTrusts given answer told tells old new
+trusting_given given s answer told tells input token old new is theirs mine =
+    subst (λ (g : Option Command). GivenTrusts g answer told tells old new) (sym is)
+    (trusting s answer told tells input token old new theirs (subst (λ (g : Option Command). RunsLawfully g answer tells input token old new) is mine))
 
 -- ---- the module file of a command
 
@@ -75,7 +87,7 @@ has_module words cpus (Call file location name args) is = all_named words cpus (
 has_module words cpus (Hash args) is = tt
 has_module words cpus (Parallel file location jobs backend window batch mode most temp) is = tt
 has_module words cpus (Session file location) is = tt
-has_module words cpus (Clear location m f key) is = tt
+has_module words cpus (Clear location m f key) is = all_targets words cpus (Clear location m f key) is
 has_module words cpus (ReduceSize location limits) is = tt
 has_module words cpus Worker is = tt
 has_module words cpus Tracker is = tt
@@ -118,10 +130,23 @@ lines-snoc m (x ∷ xs) w =
 pub defined_named : (code : List ℕ → List ℕ → Option (List ℕ)) → ((m n c : List ℕ) → code m n ≡ Some c → IsTrue (is_name n)) → (m n : List ℕ) → IsSome (code m n) → IsTrue (is_name n)
 defined_named code law m n is = let h = some_of (code m n) is in law m n h.0 h.1
 
+-- no lines of warnings
+pub no_lines : (given : Option Command) (w : Course) (lines : List ℕ) → lines ≡ [] → GivenLines given w lines
+no_lines None w lines none = none
+no_lines (Some (call file location name args)) w lines none = λ m is. ([], none, inl refl)
+no_lines (Some (hash args)) w lines none = none
+no_lines (Some (clear location m f key)) w lines none = none
+no_lines (Some (reduce_size location limits)) w lines none = none
+no_lines (Some tracker) w lines none = none
+
 -- the same at another spelling of the location and the token
 pub lawful_as : (answer : Answers) (l l' : PathView) (t t' : List ℕ) (old new : History) → l ≡ l' → t ≡ t' → Lawfully (root_of l) answer t old new → Lawfully (root_of l') answer t' old new
 lawful_as answer l l' t t' old new e f h =
     subst (λ (k : List ℕ). Lawfully (root_of l') answer k old new) f (subst (λ (p : PathView). Lawfully (root_of p) answer t old new) e h)
+
+-- such a call went on
+pub goes_lawful : (root : PathView) (answer : Answers) (token : List ℕ) (old new : History) → Lawfully root answer token old new → GoesOn old new
+goes_lawful root answer token old new done = record { start = done.start; trace = done.trace; lawful = done.lawful }
 
 -- a file that was read before a call was read in a first part of the steps
 pub reads_first : (root : PathView) (answer : Answers) (token : List ℕ) (path : PathView) (m bytes : List ℕ) (old mid new : History) → bytes ≡ m → Lawfully root answer token old mid → Lawfully root answer token mid new → ReadsNamed path 1048577 bytes (now old) (since old mid) → (reading : Trace) × (rest : Trace) × (since old new ≡ reading ++ rest) × ReadsNamed path 1048577 m (now old) reading

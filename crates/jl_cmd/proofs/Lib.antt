@@ -1,3 +1,9 @@
 pub mod ArgumentLemmas
 pub mod CacheLemmas
+pub mod CallingLemmas
+pub mod ClearEnds
+pub mod ClearLemmas
 pub mod EndingLemmas
+pub mod ReduceEnds
+pub mod TrackerEnds
+pub mod TrackerMoves

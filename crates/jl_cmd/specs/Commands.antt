@@ -2,6 +2,8 @@
 use Rattle.std.specs.Prelude.{ℕ, List, Option, Some, None}
 use Rattle.std.specs.Option.{option_and_then}
 use Rattle.jl_text.specs.Paths.{PathView}
+use Rattle.jl_limits.specs.declared.limits.Limits.{Limits}
+use Rattle.jl_value.specs.declared.key.Key.{Key}
 use Rattle.jl_words.specs.Settings.{settings_of}
 use Rattle.jl_words.specs.declared.types.Settings.{Settings}
 use Rattle.jl_words.specs.declared.types.Settings.TheVariants.{Call, Hash, Parallel, Session, Clear, ReduceSize, Worker, Tracker, Gen}
@@ -10,6 +12,9 @@ use Rattle.jl_words.specs.declared.types.Settings.TheVariants.{Call, Hash, Paral
 pub data Command : Type 0 where
   call : (file location : PathView) (name args : List ℕ) → Command
   hash : (args : List ℕ) → Command
+  clear : (location : PathView) (m f : Option (List ℕ)) (key : Option Key) → Command
+  reduce_size : (location : PathView) (limits : Limits) → Command
+  tracker : Command
 
 -- the command of these settings, where the program has it
 abbrev pub command_of : Settings → Option Command
@@ -17,10 +22,10 @@ command_of (Call file location name args) = Some (call file location name args)
 command_of (Hash args) = Some (hash args)
 command_of (Parallel file location jobs backend window batch mode most temp) = None
 command_of (Session file location) = None
-command_of (Clear location m f key) = None
-command_of (ReduceSize location limits) = None
+command_of (Clear location m f key) = Some (clear location m f key)
+command_of (ReduceSize location limits) = Some (reduce_size location limits)
 command_of Worker = None
-command_of Tracker = None
+command_of Tracker = Some tracker
 command_of (Gen location start count) = None
 
 -- the command that words give, on a machine with so many processors

@@ -7,8 +7,8 @@ use Rattle.jl_folder.specs.Reading.{ReadsNamed}
 use Rattle.jl_streams.specs.Streams.{WritesPrefix}
 use Rattle.jl_cmd.specs.Commands.{Command}
 use Rattle.jl_cmd.specs.declared.ended.Ended.{Ended}
-use Rattle.jl_cmd.specs.declared.ended.Ended.TheVariants.{Done, Failed, Usage, Refused, WriteFault, NoMemory, NoModule, FolderFault}
-use Rattle.jl_cmd.specs.Output.{Output, module_of}
+use Rattle.jl_cmd.specs.declared.ended.Ended.TheVariants.{Done, Failed, Usage, Refused, ReadFault, WriteFault, NoMemory, NoModule, FolderFault}
+use Rattle.jl_cmd.specs.Output.{Output, module_of, AreReading}
 use Rattle.jl_cmd.specs.Statuses as status
 use Rattle.jl_cmd.specs.Texts.{error_line}
 
@@ -18,6 +18,7 @@ status_of Done = status.done
 status_of (Failed t) = status.task_error
 status_of Usage = status.usage
 status_of (Refused t) = status.refused
+status_of ReadFault = status.read_fault
 status_of WriteFault = status.write_fault
 status_of NoMemory = status.no_memory
 status_of NoModule = status.no_module
@@ -29,12 +30,13 @@ last_text Done = []
 last_text (Failed t) = t
 last_text Usage = error_line (codes "usage")
 last_text (Refused t) = t
+last_text ReadFault = error_line (codes "read fault")
 last_text WriteFault = error_line (codes "write fault")
 last_text NoMemory = error_line (codes "out of memory")
 last_text NoModule = error_line (codes "no module")
 last_text FolderFault = error_line (codes "folder fault")
 
--- what a run did to the folder and to its output: the state that it found, the steps of all runs since then,
+-- what a run did to the folder, to its output and to its input: the state that it found, the steps of all runs since then,
 -- the counts of faults and the bytes written, before and after
 pub record Scene : Type 0 where
   pub state : State
@@ -45,11 +47,14 @@ pub record Scene : Type 0 where
   pub written' : List ℕ
   pub out_faults : ℕ
   pub out_faults' : ℕ
+  pub input_faults : ℕ
+  pub input_faults' : ℕ
 
-abbrev pub scene : History → History → (folder_faults folder_faults' : ℕ) → (written written' : List ℕ) → (out_faults out_faults' : ℕ) → Scene
-scene old new f f' w w' g g' = record { state = now old; steps = since old new; folder_faults = f; folder_faults' = f'; written = w; written' = w'; out_faults = g; out_faults' = g' }
+abbrev pub scene : History → History → (folder_faults folder_faults' : ℕ) → (written written' : List ℕ) → (out_faults out_faults' : ℕ) → (input_faults input_faults' : ℕ) → Scene
+scene old new f f' w w' g g' i i' = record { state = now old; steps = since old new; folder_faults = f; folder_faults' = f'; written = w; written' = w'; out_faults = g; out_faults' = g'; input_faults = i; input_faults' = i' }
 
--- what a run is told of: whether its folder tells, whether its output does, and whether the cache folder was sound and others kept its rules
+-- what a run is told of: whether its folder tells, whether its output does, and whether what its output rests on holds: that the cache folder
+-- was sound and others kept its rules, or that the input tells
 pub record Tells : Type 1 where
   pub folder : Type 0
   pub out : Type 0
@@ -59,10 +64,14 @@ abbrev pub tells : (folder out cache : Type 0) → Tells
 tells f o c = record { folder = f; out = o; cache = c }
 
 -- a first part of the steps read the file: one of them found its path naming a node of these bytes, of a longer file up to the first byte past
--- the limit; without a file nothing is read
+-- the limit
+abbrev pub ReadsFirst : PathView → List ℕ → State → Trace → Type 0
+ReadsFirst path m s steps = (reading : Trace) × (rest : Trace) × (steps ≡ reading ++ rest) × ReadsNamed path 1048577 m s reading
+
+-- the same of the module's file; without one nothing is read
 abbrev pub ReadsModule : Option PathView → List ℕ → Scene → Type 0
 ReadsModule None m x = ⊤
-ReadsModule (Some path) m x = (reading : Trace) × (rest : Trace) × (x.steps ≡ reading ++ rest) × ReadsNamed path 1048577 m x.state reading
+ReadsModule (Some path) m x = ReadsFirst path m x.state x.steps
 
 -- some state of the run had no file at the path
 abbrev pub LacksModule : Option PathView → Scene → Type 0
@@ -73,10 +82,11 @@ LacksModule (Some path) x = AtSome x.state x.steps (λ s. is_file s path ≡ fal
 abbrev pub Finishes : Output → Tells → Scene → Ended → Type 0
 Finishes o T x Done = T.cache → (o.status ≡ status.done) × (o.text ≡ []) × (T.out → x.written' ≡ x.written ++ o.bytes)
 Finishes o T x (Failed t) = (o ≡ record { bytes = []; status = status.task_error; text = t }) × (T.out → x.written' ≡ x.written)
-Finishes o T x (Refused t) = (o ≡ record { bytes = []; status = status.refused; text = t }) × (T.out → x.written' ≡ x.written)
+Finishes o T x (Refused t) = (T.cache → o ≡ record { bytes = []; status = status.refused; text = t }) × (T.out → x.written' ≡ x.written)
 Finishes o T x WriteFault = Rose x.out_faults x.out_faults' × (T.cache → (o.status ≡ status.done) × (T.out → WritesPrefix o.bytes x.written x.written'))
 Finishes o T x NoMemory = T.out → x.written' ≡ x.written
 Finishes o T x Usage = ⊥
+Finishes o T x ReadFault = ⊥
 Finishes o T x NoModule = ⊥
 Finishes o T x FolderFault = ⊥
 
@@ -94,6 +104,7 @@ CommandEnds output path T x NoMemory = T.out → x.written' ≡ x.written
 CommandEnds output path T x NoModule = (T.folder → LacksModule path x) × (T.out → x.written' ≡ x.written)
 CommandEnds output path T x FolderFault = Rose x.folder_faults x.folder_faults' × (T.out → x.written' ≡ x.written)
 CommandEnds output path T x Usage = ⊥
+CommandEnds output path T x ReadFault = ⊥
 
 -- the words gave settings, and their command ended so
 abbrev pub GivenEnds : (Command → List ℕ → Output) → Option Command → Tells → Scene → Ended → Type 0
@@ -104,6 +115,7 @@ GivenEnds output (Some s) T x e = CommandEnds (output s) (module_of s) T x e
 abbrev pub RunEnds : (Command → List ℕ → Output) → Option Command → Tells → Scene → Ended → Type 0
 RunEnds output given T x Usage = (given ≡ None) × (T.out → x.written' ≡ x.written)
 RunEnds output given T x NoMemory = T.out → x.written' ≡ x.written
+RunEnds output given T x ReadFault = AreReading given × Rose x.input_faults x.input_faults' × (T.out → x.written' ≡ x.written)
 RunEnds output given T x Done = GivenEnds output given T x Done
 RunEnds output given T x (Failed t) = GivenEnds output given T x (Failed t)
 RunEnds output given T x (Refused t) = GivenEnds output given T x (Refused t)

@@ -1,9 +1,14 @@
 pub mod Arguments
 pub mod Caches
+pub mod Calling
+pub mod Clears
 pub mod Commands
 pub mod Endings
+pub mod Following
 pub mod Output
 pub mod Promises
+pub mod Reports
 pub mod Run
+pub mod Saying
 pub mod Statuses
 pub mod Texts

@@ -1,6 +1,7 @@
 -- What a run writes and its status, where nothing fails: no fault, no want of memory.
-use Rattle.std.specs.Prelude.{ℕ, List, [], ◌∷◌, ◌++◌, length, Option, Some, None, Result, Ok, Err, if◌then◌else◌, nat_lt, codes}
+use Rattle.std.specs.Prelude.{ℕ, List, [], ◌∷◌, ◌++◌, length, Option, Some, None, Result, Ok, Err, if◌then◌else◌, nat_lt, codes, ◌+◌, ◌^◌, take, cond}
 use Rattle.std.specs.Fmt.{decimal}
+use Rattle.jl_lines.specs.Lines.{is_newline}
 use Rattle.jl_text.specs.Paths.{PathView}
 use Rattle.jl_value.specs.declared.library.TaskError.{TaskError}
 use Rattle.jl_value.specs.declared.library.ModuleFault.{ModuleFault}
@@ -10,7 +11,7 @@ use Rattle.hex.specs.Hex.{encode_lower}
 use Rattle.jl_value.specs.Canonical.{text_of}
 use Rattle.jl_value.specs.Key.{key_of}
 use Rattle.jl_value.specs.Library.{Answer, value, error}
-use Rattle.jl_cmd.specs.Commands.{Command, call, hash}
+use Rattle.jl_cmd.specs.Commands.{Command, call, hash, clear, reduce_size, tracker}
 use Rattle.jl_cmd.specs.declared.arguments.ArgumentsFault.{ArgumentsFault}
 use Rattle.jl_cmd.specs.declared.arguments.ArgumentsFault.TheVariants.{UnknownFunction}
 use Rattle.jl_cmd.specs.Arguments.{arguments_of}
@@ -27,6 +28,14 @@ pub record Output : Type 0 where
 -- a value: its canonical text and a newline
 abbrev pub prints : Tree → Output
 prints t = record { bytes = text_of t ++ 10 ∷ []; status = status.done; text = [] }
+
+-- nothing is printed
+abbrev pub prints_nothing : Output
+prints_nothing = record { bytes = []; status = status.done; text = [] }
+
+-- a line is printed
+abbrev pub prints_line : List ℕ → Output
+prints_line line = record { bytes = line; status = status.done; text = [] }
 
 -- a task that failed, by its number from 0
 abbrev pub fails : ℕ → TaskError → Output
@@ -79,17 +88,52 @@ hashed (Err e) = refuses_arguments e
 abbrev pub hash_output : List ℕ → Output
 hash_output args = hashed (arguments_of args)
 
+-- how many lines end among the bytes
+abbrev pub newlines : List ℕ → ℕ
+newlines [] = 0
+newlines (b ∷ bs) = cond (is_newline b) (1 + newlines bs) (newlines bs)
+
+-- too much input, told with the number of a line
+abbrev pub refuses_input : ℕ → Output
+refuses_input n = record { bytes = []; status = status.refused; text = error_line (codes "line " ++ (decimal n ++ codes ": too much input")) }
+
+-- `tracker`: nothing. An input of more than 2^40 bytes is refused, with the number of the line that is read when so many are taken
+unfoldable pub tracker_output : List ℕ → Output
+tracker_output input = if nat_lt (2 ^ 40) (length input) then refuses_input (1 + newlines (take (2 ^ 40) input)) else record { bytes = []; status = status.done; text = [] }
+
 -- the module file of a command, where it reads one
 abbrev pub module_of : Command → Option PathView
 module_of (call file location name args) = Some file
 module_of (hash args) = None
+module_of (clear location m f key) = None
+module_of (reduce_size location limits) = None
+module_of tracker = None
 
 -- whether a command calls a function
 abbrev pub IsCalling : Command → Type 0
 IsCalling (call file location name args) = Unit {0}
 IsCalling (hash args) = ⊥
+IsCalling (clear location m f key) = ⊥
+IsCalling (reduce_size location limits) = ⊥
+IsCalling tracker = ⊥
 
--- what the settings and the bytes of the module file give
-abbrev pub output_of : (code : List ℕ → List ℕ → Option (List ℕ)) → (List ℕ → Option ModuleFault) → (List ℕ → List (List ℕ × Tree) → Answer) → Command → List ℕ → Output
-output_of code fault answer (call file location name args) m = call_output code fault answer m name args
-output_of code fault answer (hash args) m = hash_output args
+-- whether a command reads the input
+abbrev pub IsReading : Command → Type 0
+IsReading (call file location name args) = ⊥
+IsReading (hash args) = ⊥
+IsReading (clear location m f key) = ⊥
+IsReading (reduce_size location limits) = ⊥
+IsReading tracker = Unit {0}
+
+-- whether words give a command that does
+abbrev pub AreReading : Option Command → Type 0
+AreReading None = ⊥
+AreReading (Some s) = IsReading s
+
+-- what the bytes of the input, a command and the bytes of its module file give
+abbrev pub output_of : (code : List ℕ → List ℕ → Option (List ℕ)) → (List ℕ → Option ModuleFault) → (List ℕ → List (List ℕ × Tree) → Answer) → (input : List ℕ) → Command → List ℕ → Output
+output_of code fault answer input (call file location name args) m = call_output code fault answer m name args
+output_of code fault answer input (hash args) m = hash_output args
+output_of code fault answer input (clear location n f key) m = prints_nothing
+output_of code fault answer input (reduce_size location limits) m = prints_line m
+output_of code fault answer input tracker m = tracker_output input

@@ -1,12 +1,12 @@
 -- What a run promises, by its exit status.
-use Rattle.std.specs.Prelude.{◌≡◌, ◌⊎◌, ℕ, List, [], ◌++◌, Option, Bool, false, if◌then◌else◌, nat_eq, codes}
+use Rattle.std.specs.Prelude.{◌≡◌, ◌≢◌, ◌⊎◌, ℕ, List, [], ◌++◌, Option, Bool, false, if◌then◌else◌, nat_eq, codes}
 use Rattle.jl_text.specs.Paths.{PathView}
 use Rattle.jl_folder.specs.State.{is_file, AtSome}
 use Rattle.jl_text.specs.Counts.{Rose}
 use Rattle.jl_streams.specs.Streams.{WritesPrefix}
 use Rattle.jl_value.specs.Library.{next_count}
 use Rattle.jl_cmd.specs.Output.{Output}
-use Rattle.jl_cmd.specs.Endings.{Scene, ReadsModule}
+use Rattle.jl_cmd.specs.Endings.{Scene, ReadsModule, LacksModule}
 use Rattle.jl_cmd.specs.Statuses as status
 use Rattle.jl_cmd.specs.Texts.{error_line}
 
@@ -16,7 +16,7 @@ IsWhole n = (n ≡ status.done) ⊎ ((n ≡ status.task_error) ⊎ (n ≡ status
 
 -- the statuses at which nothing was written
 abbrev pub IsSilent : ℕ → Type 0
-IsSilent n = (n ≡ status.usage) ⊎ ((n ≡ status.no_memory) ⊎ ((n ≡ status.no_module) ⊎ (n ≡ status.folder_fault)))
+IsSilent n = (n ≡ status.usage) ⊎ ((n ≡ status.no_memory) ⊎ ((n ≡ status.no_module) ⊎ ((n ≡ status.folder_fault) ⊎ (n ≡ status.read_fault))))
 
 -- every status that a run may have
 abbrev pub IsStatus : ℕ → Type 0
@@ -24,24 +24,40 @@ IsStatus n = IsWhole n ⊎ (IsSilent n ⊎ (n ≡ status.write_fault))
 
 -- the statuses at which no function was called
 abbrev pub IsUncalled : ℕ → Type 0
-IsUncalled n = (n ≡ status.usage) ⊎ ((n ≡ status.refused) ⊎ ((n ≡ status.no_module) ⊎ (n ≡ status.folder_fault)))
+IsUncalled n = (n ≡ status.usage) ⊎ ((n ≡ status.refused) ⊎ ((n ≡ status.no_module) ⊎ ((n ≡ status.folder_fault) ⊎ (n ≡ status.read_fault))))
 
 -- the last text on the error stream at a status that has one text alone
 abbrev pub text_of_status : ℕ → List ℕ
 text_of_status n =
     if nat_eq n status.usage then error_line (codes "usage") else
+    (if nat_eq n status.read_fault then error_line (codes "read fault") else
     (if nat_eq n status.write_fault then error_line (codes "write fault") else
     (if nat_eq n status.no_memory then error_line (codes "out of memory") else
     (if nat_eq n status.no_module then error_line (codes "no module") else
-    error_line (codes "folder fault"))))
+    error_line (codes "folder fault")))))
 
--- the output is that of the module's bytes as this run read them: its bytes, its status and its last text, behind the warnings
-pub record Answers (output : List ℕ → Output) (path : Option PathView) (out_tells err_clear : Type 0) (x : Scene) (warnings errors errors' : List ℕ) (n : ℕ) : Type 0 where
+-- the output is that of the module's bytes as this run read them: its bytes, its status and its last text, behind what was said before
+pub record Answers (output : List ℕ → Output) (path : Option PathView) (out_tells err_clear : Type 0) (x : Scene) (Said : List ℕ → Type 0) (errors errors' : List ℕ) (n : ℕ) : Type 0 where
   pub bytes : List ℕ
   pub reads : ReadsModule path bytes x
   pub status : (output bytes).status ≡ n
   pub written : out_tells → x.written' ≡ x.written ++ (output bytes).bytes
-  pub text : err_clear → errors' ≡ errors ++ (warnings ++ (output bytes).text)
+  pub text : err_clear → (said : List ℕ) × Said said × (errors' ≡ errors ++ (said ++ (output bytes).text))
+
+-- nothing of a command is refused: no state of the run lacked its module's file, and the output of what was read is no refusal
+pub record IsValid (output : List ℕ → Output) (path : Option PathView) (x : Scene) : Type 0 where
+  pub there : LacksModule path x → ⊥
+  pub taken : (bytes : List ℕ) → ReadsModule path bytes x → (output bytes).status ≢ status.refused
+
+-- no count of faults rose but that of the error stream
+pub record IsFaultless (x : Scene) : Type 0 where
+  pub folder : Rose x.folder_faults x.folder_faults' → ⊥
+  pub out : Rose x.out_faults x.out_faults' → ⊥
+  pub input : Rose x.input_faults x.input_faults' → ⊥
+
+-- done, a task error, or want of memory
+abbrev pub IsComplete : ℕ → Type 0
+IsComplete n = (n ≡ status.done) ⊎ ((n ≡ status.task_error) ⊎ (n ≡ status.no_memory))
 
 -- a front of that output was written, and the output failed
 pub record AnswersFront (output : List ℕ → Output) (path : Option PathView) (out_tells : Type 0) (x : Scene) : Type 0 where

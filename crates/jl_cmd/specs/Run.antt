@@ -6,8 +6,8 @@ use Rattle.jl_value.specs.Library.{next_count}
 use Rattle.jl_cmd.specs.declared.computed.Computed.{Computed}
 use Rattle.jl_cmd.specs.declared.computed.Computed.TheVariants as computed
 use Rattle.jl_cmd.specs.declared.ended.Ended.{Ended}
-use Rattle.jl_cmd.specs.declared.ended.Ended.TheVariants.{Done, Failed, Usage, Refused, WriteFault, NoMemory, NoModule, FolderFault}
-use Rattle.jl_cmd.specs.Commands.{Command, call, hash}
+use Rattle.jl_cmd.specs.declared.ended.Ended.TheVariants.{Done, Failed, Usage, Refused, ReadFault, WriteFault, NoMemory, NoModule, FolderFault}
+use Rattle.jl_cmd.specs.Commands.{Command, call, hash, clear, reduce_size, tracker}
 use Rattle.jl_cmd.specs.Output.{Output, IsCalling}
 use Rattle.jl_cmd.specs.Statuses as status
 
@@ -23,6 +23,7 @@ abbrev pub Writes : Computed → Ended → (tells : Type 0) → (faults faults' 
 Writes (computed.Printed t) Done tells f f' w w' = tells → w' ≡ w ++ t
 Writes (computed.Printed t) WriteFault tells f f' w w' = Rose f f' × (tells → WritesPrefix t w w')
 Writes (computed.Printed t) (Failed u) tells f f' w w' = ⊥
+Writes (computed.Printed t) ReadFault tells f f' w w' = ⊥
 Writes (computed.Printed t) Usage tells f f' w w' = ⊥
 Writes (computed.Printed t) (Refused u) tells f f' w w' = ⊥
 Writes (computed.Printed t) NoMemory tells f f' w w' = ⊥
@@ -70,6 +71,7 @@ Calls Done old new = (new ≡ old) ⊎ (new ≡ next_count old)
 Calls (Failed t) old new = new ≡ next_count old
 Calls WriteFault old new = (new ≡ old) ⊎ (new ≡ next_count old)
 Calls Usage old new = new ≡ old
+Calls ReadFault old new = new ≡ old
 Calls (Refused t) old new = new ≡ old
 Calls NoModule old new = new ≡ old
 Calls FolderFault old new = new ≡ old
@@ -79,6 +81,9 @@ Calls NoMemory old new = (new ≡ old) ⊎ (new ≡ next_count old)
 abbrev pub CommandCalls : Command → Ended → ℕ → ℕ → Type 0
 CommandCalls (call file location name args) e old new = Calls e old new
 CommandCalls (hash args) e old new = new ≡ old
+CommandCalls (clear location m f key) e old new = new ≡ old
+CommandCalls (reduce_size location limits) e old new = new ≡ old
+CommandCalls tracker e old new = new ≡ old
 
 -- and of words
 abbrev pub GivenCalls : Option Command → Ended → ℕ → ℕ → Type 0

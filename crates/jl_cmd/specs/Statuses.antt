@@ -13,6 +13,9 @@ usage = 2
 abbrev pub refused : ℕ
 refused = 3
 
+abbrev pub read_fault : ℕ
+read_fault = 5
+
 abbrev pub write_fault : ℕ
 write_fault = 6
 

@@ -1,16 +1,21 @@
 // The command `call`.
-ghost use Rattle.std.specs.Prelude.{◌≡◌, ◌≤◌, ◌⊎◌, ℕ, [], Some, IsSome, IfOk, IsTrue};
+ghost use Rattle.std.specs.Prelude.{◌≡◌, ◌≤◌, ◌⊎◌, ℕ, List, [], Some, IsSome, IfOk, IsTrue};
 ghost use Rattle.jl_text.specs.Texts.{is_name};
 ghost use Rattle.jl_entry.specs.Names.{root_of};
 ghost use Rattle.jl_laws.specs.Tidy.{IsSound};
 ghost use Rattle.jl_laws.specs.Proper.{IsLawful};
 ghost use Rattle.jl_claims.specs.Claims.{Called as CallsFolder};
+ghost use Rattle.jl_text.specs.Counts.{Rose};
+ghost use Rattle.jl_folder.specs.State.{now, since};
+ghost use Rattle.jl_claims.specs.Steps.{IsLone};
 ghost use Rattle.jl_store.specs.Cached.{AnyMove};
+ghost use Rattle.jl_store.specs.declared.memory.Warning.{Warning};
 ghost use Rattle.jl_store.specs.Trust.{IsTrusted};
 ghost use Rattle.jl_words.specs.ModuleNames.{module_name_of};
 ghost use Rattle.jl_cmd.specs.Output.{call_output};
 ghost use Rattle.jl_cmd.specs.Texts.{warning_lines};
 ghost use Rattle.jl_cmd.specs.Endings.{CommandEnds, scene, tells};
+ghost use Rattle.jl_cmd.specs.Calling.{AreOfCall, LeavesRead, EndedAt, course, memory_at};
 ghost use Rattle.jl_cmd.specs.Run.{Writes, WritesWarned, Counts, Calls};
 
 use crate::compute::compute;
@@ -122,9 +127,13 @@ pub fn call<L: Library, F: Folder, O: Sink, H: Host>(
 ) -> Warned
     requires token { H.token host.old ≡ F.token folder.old }
     requires file { IsSome (module_name_of file.now) }
-    ensures ends { CommandEnds (λ m. call_output L.code L.fault L.answer m name.now args.now) (Some file.now)
+    ensures ends { (i i' : ℕ) → CommandEnds (λ m. call_output L.code L.fault L.answer m name.now args.now) (Some file.now)
         (tells (F.told folder.old) (O.told out.old) (IsTrusted (root_of location.now) L.answer (F.told folder.old) (F.history folder.old) (F.history folder.new)))
-        (scene (F.history folder.old) (F.history folder.new) (F.faults folder.old) (F.faults folder.new) (O.written out.old) (O.written out.new) (O.faults out.old) (O.faults out.new)) result.ended }
+        (scene (F.history folder.old) (F.history folder.new) (F.faults folder.old) (F.faults folder.new) (O.written out.old) (O.written out.new) (O.faults out.old) (O.faults out.new) i i') result.ended }
+    ensures lines { (m : List ℕ) → module_name_of file.now ≡ Some m → (ws : List Warning) × (result.lines ≡ warning_lines m ws)
+        × AreOfCall (course L.code L.line (F.told folder.old) (F.token folder.old) (F.history folder.old) (F.history folder.new) (F.faults folder.old) (F.faults folder.new)) file.now (memory_at location.now m (F.token folder.old)) name.now args.now ws }
+    ensures alone { F.told folder.old → (m : List ℕ) → module_name_of file.now ≡ Some m → IsLone (F.token folder.old) (since (F.history folder.old) (F.history folder.new)) → IsSound (root_of location.now) L.answer (now (F.history folder.old)) → (Rose (F.faults folder.old) (F.faults folder.new) → ⊥)
+        → EndedAt result.ended (LeavesRead (course L.code L.line (F.told folder.old) (F.token folder.old) (F.history folder.old) (F.history folder.new) (F.faults folder.old) (F.faults folder.new)) L.answer file.now (memory_at location.now m (F.token folder.old)) name.now args.now (H.told host.old) (H.moments host.old) (L.calls lib.old) (L.calls lib.new)) }
     ensures calls { Calls result.ended (L.calls lib.old) (L.calls lib.new) }
     ensures lawful { F.told folder.old → CallsFolder (IsLawful (root_of location.now) L.answer) (IsLawful (root_of location.now) L.answer) (F.token folder.old) AnyMove
         (IsSound (root_of location.now) L.answer) (IsSound (root_of location.now) L.answer) (F.history folder.old) (F.history folder.new) }

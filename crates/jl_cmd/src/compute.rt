@@ -9,9 +9,15 @@ ghost use Rattle.jl_entry.specs.Names.{root_of};
 ghost use Rattle.jl_laws.specs.Tidy.{IsSound};
 ghost use Rattle.jl_laws.specs.Proper.{IsLawful};
 ghost use Rattle.jl_claims.specs.Claims.{Called as CallsFolder};
+ghost use Rattle.jl_text.specs.Counts.{Rose};
+ghost use Rattle.jl_folder.specs.State.{now, since};
+ghost use Rattle.jl_claims.specs.Steps.{IsLone};
+ghost use Rattle.jl_store.specs.Next.{asked};
+ghost use Rattle.jl_store.specs.Warned.{Warns};
 ghost use Rattle.jl_store.specs.Cached.{AnyMove};
 ghost use Rattle.jl_store.specs.Trust.{IsTrusted};
 ghost use Rattle.jl_cmd.specs.Output.{call_output, called as called_of, answers};
+ghost use Rattle.jl_cmd.specs.Calling.{CallWarns, LeavesAsked, LeavesCalled, ComputedAt};
 ghost use Rattle.jl_cmd.specs.Run.{Computes, Counts};
 
 use crate::arguments::{ArgumentsFault, read_arguments};
@@ -48,6 +54,11 @@ fn answered<L: Library, F: Folder, H: Host>(
     ensures computes { (c : List ℕ) → L.code (L.loaded lib.old) name.now ≡ Some c
         → Computes (answers (L.answer c args.now)) (IsTrusted (root_of memory.now.location) L.answer (F.told folder.old) (F.history folder.old) (F.history folder.new)) result }
     ensures calls { Counts result (L.calls lib.old) (L.calls lib.new) }
+    ensures warns { (c : List ℕ) (n : ℕ) → L.code (L.loaded lib.old) name.now ≡ Some c → L.line (L.loaded lib.old) name.now ≡ n
+        → Warns warnings.old.items warnings.new.items (asked memory.now name.now c n args.now) (F.told folder.old) (F.faults folder.old) (F.faults folder.new) (F.history folder.old) (F.history folder.new) }
+    ensures alone { F.told folder.old → (c : List ℕ) (n : ℕ) → L.code (L.loaded lib.old) name.now ≡ Some c → L.line (L.loaded lib.old) name.now ≡ n
+        → IsLone (F.token folder.old) (since (F.history folder.old) (F.history folder.new)) → IsSound (root_of memory.now.location) L.answer (now (F.history folder.old)) → (Rose (F.faults folder.old) (F.faults folder.new) → ⊥)
+        → ComputedAt result (LeavesAsked (asked memory.now name.now c n args.now) L.answer (now (F.history folder.old)) (now (F.history folder.new)) (H.told host.old) (H.moments host.old) (L.calls lib.old) (L.calls lib.new)) }
     ensures told { F.told folder.old → F.told folder.new }
     ensures token { F.token folder.new ≡ F.token folder.old }
     ensures opens { F.opens folder.new ≡ F.opens folder.old }
@@ -80,6 +91,9 @@ fn called<L: Library, F: Folder, H: Host>(
         (IsSound (root_of memory.now.location) L.answer) (IsSound (root_of memory.now.location) L.answer) (F.history folder.old) (F.history folder.new) }
     ensures computes { Computes (called_of L.answer (L.code (L.loaded lib.old) name.now) args.now) (IsTrusted (root_of memory.now.location) L.answer (F.told folder.old) (F.history folder.old) (F.history folder.new)) result }
     ensures calls { Counts result (L.calls lib.old) (L.calls lib.new) }
+    ensures warns { CallWarns L.code L.line memory.now (L.loaded lib.old) name.now args.now (F.told folder.old) (F.faults folder.old) (F.faults folder.new) (F.history folder.old) (F.history folder.new) warnings.old.items warnings.new.items }
+    ensures alone { F.told folder.old → IsLone (F.token folder.old) (since (F.history folder.old) (F.history folder.new)) → IsSound (root_of memory.now.location) L.answer (now (F.history folder.old)) → (Rose (F.faults folder.old) (F.faults folder.new) → ⊥)
+        → ComputedAt result (LeavesCalled L.code L.line L.answer memory.now (L.loaded lib.old) name.now args.now (now (F.history folder.old)) (now (F.history folder.new)) (H.told host.old) (H.moments host.old) (L.calls lib.old) (L.calls lib.new)) }
     ensures told { F.told folder.old → F.told folder.new }
     ensures token { F.token folder.new ≡ F.token folder.old }
     ensures opens { F.opens folder.new ≡ F.opens folder.old }
@@ -114,6 +128,9 @@ pub fn compute<L: Library, F: Folder, H: Host>(
         (IsSound (root_of memory.now.location) L.answer) (IsSound (root_of memory.now.location) L.answer) (F.history folder.old) (F.history folder.new) }
     ensures computes { Computes (call_output L.code L.fault L.answer bytes.now name.now args.now) (IsTrusted (root_of memory.now.location) L.answer (F.told folder.old) (F.history folder.old) (F.history folder.new)) result }
     ensures calls { Counts result (L.calls lib.old) (L.calls lib.new) }
+    ensures warns { CallWarns L.code L.line memory.now bytes.now name.now args.now (F.told folder.old) (F.faults folder.old) (F.faults folder.new) (F.history folder.old) (F.history folder.new) warnings.old.items warnings.new.items }
+    ensures alone { F.told folder.old → IsLone (F.token folder.old) (since (F.history folder.old) (F.history folder.new)) → IsSound (root_of memory.now.location) L.answer (now (F.history folder.old)) → (Rose (F.faults folder.old) (F.faults folder.new) → ⊥)
+        → ComputedAt result (LeavesCalled L.code L.line L.answer memory.now bytes.now name.now args.now (now (F.history folder.old)) (now (F.history folder.new)) (H.told host.old) (H.moments host.old) (L.calls lib.old) (L.calls lib.new)) }
     ensures told { F.told folder.old → F.told folder.new }
     ensures token { F.token folder.new ≡ F.token folder.old }
     ensures opens { F.opens folder.new ≡ F.opens folder.old }

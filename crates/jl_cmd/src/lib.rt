@@ -3,12 +3,15 @@
 
 mod arguments;
 mod call;
+mod clear;
 mod compute;
 mod computed;
 mod ended;
 mod hash;
+mod reduce;
 mod texts;
 mod top;
+mod tracker;
 mod warn;
 
 pub use arguments::{ArgumentsFault, read_arguments};

@@ -2,6 +2,7 @@
 ghost use Rattle.std.specs.Prelude.{◌≡◌, ◌++◌, IfOk, codes};
 ghost use Rattle.std.specs.Fmt.{decimal};
 ghost use Rattle.jl_value.specs.Names.{name_of, fault_name_of};
+ghost use Rattle.jl_cmd.specs.Output.{refuses_input};
 ghost use Rattle.jl_cmd.specs.Texts.{error_line as error_line_lem, why as why_lem};
 
 use crate::arguments::ArgumentsFault;
@@ -46,6 +47,14 @@ pub fn module_line(alloc: Global, fault: ModuleFault) -> Result<Text, AllocError
     let line = fault.line;
     let kind = fault.kind.name();
     let what = format!(in alloc; "module line {line}: {kind}")?;
+    error_line(alloc, what.as_str())
+}
+
+/// The text about an input of which so much was taken as may be.
+pub fn too_much_line(alloc: Global, line: u64) -> Result<Text, AllocError>
+    ensures { IfOk result (λ t. t ≡ (refuses_input line).text) }
+{
+    let what = format!(in alloc; "line {line}: too much input")?;
     error_line(alloc, what.as_str())
 }
 

@@ -1,5 +1,24 @@
+use Rattle.std.proofs.Common.{◌≡◌, refl}
+use Rattle.jl_store.specs.Next.{asked}
+use Rattle.jl_store.specs.declared.cached.Cached.TheVariants.{Hit, Computed, Error}
 use Rattle.jl_cmd.proofs.CacheLemmas.{defined_named}
+use Rattle.jl_cmd.proofs.CallingLemmas.{asked_leaves, printed_at, failed_at}
 use Rattle.jl_cmd.proofs.compute.answered.Goals as goal
 
 pub call_cached-requires-clause-function_name : goal.call_cached-requires-clause-function_name
 call_cached-requires-clause-function_name g c = defined_named g.L.Library.code g.met.L.Library.named _ _ c.requires.defined
+
+pub returns-in-Hit-clause-alone : goal.returns-in-Hit-clause-alone
+returns-in-Hit-clause-alone g c = λ told code n is line lone sound rose.
+    printed_at c.printed.result _ c.printed.ensures.printed
+    (asked_leaves (asked c.args.memory.now c.args.name.now code n c.args.args.now) g.L.Library.answer (Hit c.in-Hit.value) _ _ _ _ _ _ _ _ _ told refl (c.in-Hit.ensures.answer code is) c.in-Hit.ensures.calls (c.call_cached.ensures.lawful told) lone sound (c.in-Hit.ensures.alone told code n is line lone sound.tidy rose))
+
+pub returns-in-Computed-clause-alone : goal.returns-in-Computed-clause-alone
+returns-in-Computed-clause-alone g c = λ told code n is line lone sound rose.
+    printed_at c.printed-in-Computed.result _ c.printed-in-Computed.ensures.printed
+    (asked_leaves (asked c.args.memory.now c.args.name.now code n c.args.args.now) g.L.Library.answer (Computed c.in-Computed.value) _ _ _ _ _ _ _ _ _ told refl (c.in-Computed.ensures.answer code is) c.in-Computed.ensures.calls (c.call_cached.ensures.lawful told) lone sound (c.in-Computed.ensures.alone told code n is line lone sound.tidy rose))
+
+pub returns-in-Error-clause-alone : goal.returns-in-Error-clause-alone
+returns-in-Error-clause-alone g c = λ told code n is line lone sound rose.
+    failed_at c.failed.result _ c.failed.ensures.failed
+    (asked_leaves (asked c.args.memory.now c.args.name.now code n c.args.args.now) g.L.Library.answer (Error c.in-Error.error) _ _ _ _ _ _ _ _ _ told refl (c.in-Error.ensures.answer code is) c.in-Error.ensures.calls (c.call_cached.ensures.lawful told) lone sound (c.in-Error.ensures.alone told code n is line lone sound.tidy rose))

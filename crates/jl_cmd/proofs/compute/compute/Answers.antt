@@ -1,4 +1,9 @@
+use Rattle.std.proofs.Common.{rules, ◌≡◌, ℕ, List, [], inl, refl, sym, subst, append-nil}
+use Rattle.jl_store.specs.declared.memory.Warning.{Warning}
+use Rattle.jl_folder.specs.State.{now}
 use Rattle.jl_store.proofs.Lawfully.{lawful_none}
+use Rattle.jl_cmd.specs.Calling.{CallWarns, LeavesCalled, ComputedAt}
+use Rattle.jl_cmd.proofs.CallingLemmas.{computed_map, refused_at}
 use Rattle.jl_cmd.proofs.compute.compute.Goals as goal
 
 pub returns-then-bytes-gt-LIMIT-clause-lawful : goal.returns-then-bytes-gt-LIMIT-clause-lawful
@@ -9,3 +14,37 @@ returns-in-Fault-clause-lawful g c = λ told. lawful_none _ _ _ (g.F.Folder.hist
 
 pub returns-in-NoMemory-clause-lawful : goal.returns-in-NoMemory-clause-lawful
 returns-in-NoMemory-clause-lawful g c = λ told. lawful_none _ _ _ (g.F.Folder.history c.args.folder.now)
+
+pub returns-then-bytes-gt-LIMIT-clause-warns : goal.returns-then-bytes-gt-LIMIT-clause-warns
+returns-then-bytes-gt-LIMIT-clause-warns g c = ([], sym (append-nil _), inl refl)
+
+pub returns-in-Fault-clause-warns : goal.returns-in-Fault-clause-warns
+returns-in-Fault-clause-warns g c = ([], sym (append-nil _), inl refl)
+
+pub returns-in-NoMemory-clause-warns : goal.returns-in-NoMemory-clause-warns
+returns-in-NoMemory-clause-warns g c = ([], sym (append-nil _), inl refl)
+
+pub returns-then-bytes-gt-LIMIT-clause-alone : goal.returns-then-bytes-gt-LIMIT-clause-alone
+returns-then-bytes-gt-LIMIT-clause-alone g c = λ told lone sound rose. refused_at c.refused_module.result _ c.refused_module.ensures.refused
+
+pub returns-in-Fault-clause-alone : goal.returns-in-Fault-clause-alone
+returns-in-Fault-clause-alone g c = λ told lone sound rose. refused_at c.refused_module-in-Fault.result _ c.refused_module-in-Fault.ensures.refused
+
+pub returns-in-Read-clause-warns : goal.returns-in-Read-clause-warns
+returns-in-Read-clause-warns g c =
+    let folder = g.F.Folder in
+    let lib = g.L.Library in
+    let loaded : lib.loaded c.read_module.new.self ≡ c.args.bytes.now = search rules in
+    subst (λ (bytes : List ℕ). CallWarns lib.code lib.line c.args.memory.now bytes c.args.name.now c.args.args.now (folder.told c.args.folder.now) (folder.faults c.args.folder.now) (folder.faults c.called.new.folder) (folder.history c.args.folder.now) (folder.history c.called.new.folder) c.args.warnings.now.items c.called.new.warnings.items) loaded c.called.ensures.warns
+
+pub returns-in-Read-clause-alone : goal.returns-in-Read-clause-alone
+returns-in-Read-clause-alone g c = λ told lone sound rose.
+    let lib = g.L.Library in
+    let loaded : lib.loaded c.read_module.new.self ≡ c.args.bytes.now = search rules in
+    let calls : lib.calls c.read_module.new.self ≡ lib.calls c.args.lib.now = search rules in
+    let folder = g.F.Folder in
+    let host = g.H.Host in
+    let leaves = λ (bytes : List ℕ) (k n : ℕ). LeavesCalled lib.code lib.line lib.answer c.args.memory.now bytes c.args.name.now c.args.args.now (now (folder.history c.args.folder.now)) (now (folder.history c.called.new.folder)) (host.told c.args.host.now) (host.moments c.args.host.now) k (lib.calls c.called.new.lib) n in
+    computed_map c.called.result (leaves (lib.loaded c.read_module.new.self) (lib.calls c.read_module.new.self)) (leaves c.args.bytes.now (lib.calls c.args.lib.now))
+    (λ n h. subst (λ (k : ℕ). leaves c.args.bytes.now k n) calls (subst (λ (bytes : List ℕ). leaves bytes (lib.calls c.read_module.new.self) n) loaded h))
+    (c.called.ensures.alone told lone sound rose)

@@ -1,16 +1,62 @@
-use Rattle.std.proofs.Common.{◌∙◌, sym}
+use Rattle.std.proofs.Common.{◌≡◌, ◌∙◌, ◌++◌, ◌⊎◌, ℕ, List, Option, Some, sym, ap, subst}
+use Rattle.jl_text.specs.Counts.{Rose}
+use Rattle.jl_cmd.specs.Commands.{Command}
+use Rattle.jl_cmd.specs.Endings.{last_text}
+use Rattle.jl_cmd.specs.Promises.{IsSilent, text_of_status}
+use Rattle.jl_cmd.specs.Calling.{Course, course}
+use Rattle.jl_cmd.specs.Saying.{SaidBy}
+use Rattle.jl_cmd.proofs.CallingLemmas.{given_at}
 use Rattle.jl_cmd.proofs.CacheLemmas.{trusting_given}
-use Rattle.jl_cmd.proofs.EndingLemmas.{answers_at, answers_front, silent_at, folder_fault_rose, write_fault_rose, counts_at}
+use Rattle.jl_cmd.proofs.EndingLemmas.{answers_at, answers_front, silent_at, folder_fault_rose, read_fault_rose, write_fault_rose, counts_at, completes, text_at}
+use Rattle.jl_cmd.proofs.TrackerEnds.{run_says, runs_tracker}
+use Rattle.jl_cmd.proofs.ClearEnds.{clears_at}
+use Rattle.jl_cmd.proofs.ReduceEnds.{reduces_at}
 use Rattle.jl_cmd.proofs.top.run.Goals as goal
 
 pub returns-clause-output : goal.returns-clause-output
 returns-clause-output g c = λ s is whole theirs.
-    let trust = trusting_given _ s _ _ _ _ _ is theirs (c.command-warned.ensures.lawful theirs.told) in
-    (c.command-warned.result.lines, answers_at _ _ _ _ _ _ _ _ _ _ s _ c.status.ensures is c.command-warned.ensures.ends trust theirs.told c.report.ensures.text whole)
+    let folder = g.F.Folder in
+    let w : Course = course g.L.Library.code g.L.Library.line (folder.told c.args.folder.now) (folder.token c.args.folder.now) (folder.history c.args.folder.now) (folder.history c.command-warned.new.folder) (folder.faults c.args.folder.now) (folder.faults c.command-warned.new.folder) in
+    let E = g.E.Sink in
+    let trust = trusting_given _ s _ _ _ _ _ _ _ is theirs (c.command-warned.ensures.lawful theirs.told) in
+    let errors = E.written c.args.err.now in
+    let errors' = E.written c.report.new.err in
+    let last = last_text c.command-warned.result.ended in
+    answers_at _ _ _ _ _ (SaidBy (Some s) w) errors errors' _ s _ c.status.ensures is c.command-warned.ensures.ends trust theirs.told
+    (λ clear.
+    subst (λ (o : Option Command). (said : List ℕ) × SaidBy o w said × (errors' ≡ errors ++ (said ++ last))) is
+    (run_says _ w _ _ _ _ _ _ _ _ _ _ errors' c.command-warned.result.lines last _ _ c.command-warned.result.ended (λ none. ap E.written (c.command-warned.ensures.quiet none)) c.command-warned.ensures.follows c.command-warned.ensures.lines clear.0 c.command-warned.ensures.err_later c.report.ensures.later clear.1 (c.report.ensures.text (c.command-warned.ensures.err_told clear.0))))
+    whole
+
+pub returns-clause-text : goal.returns-clause-text
+returns-clause-text g c = λ n told clear.
+    let folder = g.F.Folder in
+    let w : Course = course g.L.Library.code g.L.Library.line (folder.told c.args.folder.now) (folder.token c.args.folder.now) (folder.history c.args.folder.now) (folder.history c.command-warned.new.folder) (folder.faults c.args.folder.now) (folder.faults c.command-warned.new.folder) in
+    let E = g.E.Sink in
+    let errors = E.written c.args.err.now in
+    let errors' = E.written c.report.new.err in
+    let last = last_text c.command-warned.result.ended in
+    let s = run_says _ w _ _ _ _ _ _ _ _ _ _ errors' c.command-warned.result.lines last _ _ c.command-warned.result.ended (λ none. ap E.written (c.command-warned.ensures.quiet none)) c.command-warned.ensures.follows c.command-warned.ensures.lines told c.command-warned.ensures.err_later c.report.ensures.later clear (c.report.ensures.text (c.command-warned.ensures.err_told told)) in
+    (s.0, s.1, s.2 ∙ ap (λ (t : List ℕ). errors ++ (s.0 ++ t)) (text_at c.command-warned.result.ended c.status.result c.status.ensures n))
+
+pub returns-clause-alone : goal.returns-clause-alone
+returns-clause-alone g c = given_at _ _ _ _ _ _ _ c.command-warned.result.ended c.status.result c.status.ensures c.command-warned.ensures.alone
+
+pub returns-clause-complete : goal.returns-clause-complete
+returns-clause-complete g c = λ s is theirs valid clear.
+    let trust = trusting_given _ s _ _ _ _ _ _ _ is theirs (c.command-warned.ensures.lawful theirs.told) in
+    completes _ _ _ _ _ s _ c.status.ensures is c.command-warned.ensures.ends trust theirs.told valid clear
+
+pub returns-clause-tracks : goal.returns-clause-tracks
+returns-clause-tracks g c =
+    runs_tracker _ _ _ _ _ _ _ _ _ _ _ _ _ c.command-warned.result.lines _ _ c.command-warned.result.ended _ c.status.ensures c.report.ensures.later (λ told. c.report.ensures.text (c.command-warned.ensures.err_told told)) c.command-warned.ensures.lines c.command-warned.ensures.follows
+
+pub returns-clause-read_fault : goal.returns-clause-read_fault
+returns-clause-read_fault g c = λ n. read_fault_rose _ _ _ _ _ c.command-warned.ensures.ends (sym c.status.ensures ∙ n)
 
 pub returns-clause-write_fault : goal.returns-clause-write_fault
 returns-clause-write_fault g c = λ s is six theirs.
-    let trust = trusting_given _ s _ _ _ _ _ is theirs (c.command-warned.ensures.lawful theirs.told) in
+    let trust = trusting_given _ s _ _ _ _ _ _ _ is theirs (c.command-warned.ensures.lawful theirs.told) in
     answers_front _ _ _ _ _ s is c.command-warned.ensures.ends trust theirs.told (sym c.status.ensures ∙ six)
 
 pub returns-clause-write_fault_rose : goal.returns-clause-write_fault_rose
@@ -24,3 +70,9 @@ returns-clause-folder_fault g c = λ n. folder_fault_rose _ _ _ _ _ c.command-wa
 
 pub returns-clause-calls : goal.returns-clause-calls
 returns-clause-calls g c = counts_at _ _ _ _ _ c.status.ensures c.command-warned.ensures.calls
+
+pub returns-clause-clears : goal.returns-clause-clears
+returns-clause-clears g c = clears_at _ _ _ _ _ c.command-warned.result.ended _ c.status.ensures c.command-warned.ensures.clears
+
+pub returns-clause-reduces : goal.returns-clause-reduces
+returns-clause-reduces g c = reduces_at _ _ _ _ _ _ _ _ _ _ c.status.ensures c.command-warned.ensures.reduces
