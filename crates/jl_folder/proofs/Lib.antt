@@ -1,6 +1,7 @@
 pub mod ChildLemmas
 pub mod DiskLemmas
 pub mod EmptyTree
+pub mod ForeignLemmas
 pub mod Looks
 pub mod MemoryLemmas
 pub mod Opens

@@ -194,7 +194,8 @@ impl Disk {
     }
 
     fn allows_rename(&self, from: &Path, to: &Path) -> bool
-        ensures { result ≡ true → IsSound self.now → Allowed (disk_state self.now) (Move.Rename from.now to.now) }
+        ensures yes { result ≡ true → IsSound self.now → Allowed (disk_state self.now) (Move.Rename from.now to.now) }
+        ensures no { result ≡ false → IsSound self.now → Allowed (disk_state self.now) (Move.Rename from.now to.now) → ⊥ }
     {
         if *from == *to {
             return false;
@@ -212,7 +213,8 @@ impl Disk {
     }
 
     fn allows_remove_dir(&self, path: &Path) -> bool
-        ensures { result ≡ true → IsSound self.now → Allowed (disk_state self.now) (Move.RemoveDir path.now) }
+        ensures yes { result ≡ true → IsSound self.now → Allowed (disk_state self.now) (Move.RemoveDir path.now) }
+        ensures no { result ≡ false → IsSound self.now → Allowed (disk_state self.now) (Move.RemoveDir path.now) → ⊥ }
     {
         if !self.is_folder(path.parts()) {
             return false;
@@ -228,7 +230,8 @@ impl Disk {
 
     /// Whether the move may be made.
     pub fn allows(&self, change: &Move) -> bool
-        ensures { result ≡ true → IsSound self.now → Allowed (disk_state self.now) change.now }
+        ensures yes { result ≡ true → IsSound self.now → Allowed (disk_state self.now) change.now }
+        ensures no { result ≡ false → IsSound self.now → Allowed (disk_state self.now) change.now → ⊥ }
     {
         match change {
             Move::MakeDir(path) => self.place(path.parts()).is_none() && self.has_parent(path),

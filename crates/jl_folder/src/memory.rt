@@ -92,7 +92,8 @@ fn fresh_number(nodes: &[NodeEntry], named: &[u64]) -> Option<u64>
 }
 
 fn has_own_move(token: &Token, moves: &[(Token, Move)]) -> bool
-    ensures { result ≡ false → IsForeign token.now moves.now }
+    ensures none { result ≡ false → IsForeign token.now moves.now }
+    ensures some { result ≡ true → IsForeign token.now moves.now → ⊥ }
 {
     for entry in moves {
         if entry.0 == *token {
@@ -108,9 +109,10 @@ fn count_own(token: &Token, trace: &[(Token, Move)]) -> u64
     trace.iter().filter(|e| e.0 == *token).count() as u64
 }
 
-/// No move of others has this token, as `MemFolder::new` wants it.
+/// Whether no move of others has this token, as `MemFolder::new` wants it.
 pub fn are_foreign(token: &Token, others: &[OtherMoves]) -> bool
-    ensures { result ≡ true → All (λ o. IsForeign token.now o.1.items) others.now }
+    ensures yes { result ≡ true → All (λ o. IsForeign token.now o.1.items) others.now }
+    ensures no { result ≡ false → All (λ o. IsForeign token.now o.1.items) others.now → ⊥ }
 {
     for group in others {
         if has_own_move(token, group.1.as_slice()) {
