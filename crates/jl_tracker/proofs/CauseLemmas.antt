@@ -221,3 +221,7 @@ folder_cause me p a b f g (inl t) = elim t.why [
   | inr r ↦ inr (inr r)
 ]
 folder_cause me p a b f g (inr t) = tried_cause me p a b f g t
+
+-- trying names never lowers the count of faults
+pub names_later : (me : List ℕ) (p : PathView) (names : List Name) (a b : History) (f g : ℕ) → TriedNames me p names a b f g → f ≤ g
+names_later me p names a b f g t = (tried_many me p names a b f g t).later

@@ -8,3 +8,4 @@ pub mod GoingLemmas
 pub mod HeldLemmas
 pub mod TrackLemmas
 pub mod CauseLemmas
+pub mod FailureLemmas

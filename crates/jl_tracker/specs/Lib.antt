@@ -2,6 +2,7 @@ pub mod Causes
 pub mod Counting
 pub mod Effects
 pub mod Entries
+pub mod Failures
 pub mod Parts
 pub mod PathTexts
 pub mod Plays

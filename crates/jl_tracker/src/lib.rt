@@ -14,7 +14,7 @@ mod texts;
 
 pub use counts::{Counts, Leaked};
 pub use following::{Tracked, track};
-pub use law::folders_stay_for_a_cause;
+pub use law::{folders_stay_for_a_cause, removals_fail_by_counted_faults};
 pub use line::{BadLine, Kind, Line, read_line};
 pub use table::Step;
 

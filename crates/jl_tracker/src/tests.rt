@@ -1,5 +1,8 @@
 // The tracker, against what was worked out by hand.
-use crate::{BadLine, Counts, Kind, Leaked, Line, Step, Tracked, read_line, track};
+use crate::{
+    BadLine, Counts, Kind, Leaked, Line, Step, Tracked, folders_stay_for_a_cause, read_line,
+    removals_fail_by_counted_faults, track,
+};
 use jl_folder::{Bytes, Folder, MemFolder, Path, Token, Tree};
 use jl_streams::{MemSink, MemSource};
 use std::alloc::Global;
@@ -299,4 +302,10 @@ fn a_read_that_fails_leaves_the_rest(rt: HostRuntime) -> Result<(), Fail> {
     assert!(rt; said.as_str() == "t/b stays\n", "{said}");
     assert!(rt; err.written().is_empty());
     Ok(())
+}
+
+#[test]
+fn laws_hold_of_the_forms_in_memory() {
+    folders_stay_for_a_cause();
+    removals_fail_by_counted_faults::<MemFolder, MemSink>();
 }
