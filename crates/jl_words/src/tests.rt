@@ -198,12 +198,36 @@ fn read(alloc: Global, line: &str) -> Result<String, AllocError> {
 }
 
 #[test]
-fn calls_and_hashes_set_what_their_words_say(rt: HostRuntime) -> Result<(), Fail> {
+fn call_sets_what_its_words_say(rt: HostRuntime) -> Result<(), Fail> {
     let rows = [
         ("call --module m.def --location c f []", "call m.def c f []"),
         ("call f [] --location=c --module=m.def", "call m.def c f []"),
         ("call f --location c [] --module m.def", "call m.def c f []"),
         ("call --module=m.def f [] --location c", "call m.def c f []"),
+        (
+            "call --module a/b/m.def --location /c//d f [1]",
+            "call a/b/m.def /c/d f [1]",
+        ),
+        (
+            "call --module ./_9.def/ --location . call x=-1",
+            "call _9.def . call x=-1",
+        ),
+        ("call --module /m.def --location / - -", "call /m.def / - -"),
+        ("call --module m.def --location -  []", "call m.def -  []"),
+        (
+            "call --module=a=b/m.def --location=-c f []",
+            "call a=b/m.def -c f []",
+        ),
+    ];
+    for (line, want) in rows {
+        assert!(rt; read(rt.alloc(), line)?.as_str() == want, "{line}");
+    }
+    Ok(())
+}
+
+#[test]
+fn call_takes_no_option_behind_two_dashes(rt: HostRuntime) -> Result<(), Fail> {
+    let rows = [
         (
             "call --module m.def --location c -- f []",
             "call m.def c f []",
@@ -224,20 +248,16 @@ fn calls_and_hashes_set_what_their_words_say(rt: HostRuntime) -> Result<(), Fail
             "call --module m.def --location c -- --location=d --x",
             "call m.def c --location=d --x",
         ),
-        (
-            "call --module a/b/m.def --location /c//d f [1]",
-            "call a/b/m.def /c/d f [1]",
-        ),
-        (
-            "call --module ./_9.def/ --location . call x=-1",
-            "call _9.def . call x=-1",
-        ),
-        ("call --module /m.def --location / - -", "call /m.def / - -"),
-        ("call --module m.def --location -  []", "call m.def -  []"),
-        (
-            "call --module=a=b/m.def --location=-c f []",
-            "call a=b/m.def -c f []",
-        ),
+    ];
+    for (line, want) in rows {
+        assert!(rt; read(rt.alloc(), line)?.as_str() == want, "{line}");
+    }
+    Ok(())
+}
+
+#[test]
+fn hash_sets_what_its_words_say(rt: HostRuntime) -> Result<(), Fail> {
+    let rows = [
         ("hash {}", "hash {}"),
         ("hash -", "hash -"),
         ("hash ", "hash "),
@@ -254,7 +274,7 @@ fn calls_and_hashes_set_what_their_words_say(rt: HostRuntime) -> Result<(), Fail
 }
 
 #[test]
-fn parallel_and_session_set_what_their_words_say(rt: HostRuntime) -> Result<(), Fail> {
+fn parallel_sets_what_its_words_say(rt: HostRuntime) -> Result<(), Fail> {
     let rows = [
         (
             "parallel --module m.def",
@@ -288,24 +308,44 @@ fn parallel_and_session_set_what_their_words_say(rt: HostRuntime) -> Result<(), 
             "parallel --module m.def --batch-size 999999999 --n-jobs=-999999999",
             "parallel m.def none 1 loky 2 999999999 list 1048576 .",
         ),
-        ("parallel --module m.def --n-jobs -1", "usage"),
-        ("parallel --module m.def --n-jobs=0", "usage"),
-        ("parallel --module m.def --n-jobs=-0", "usage"),
-        ("parallel --module m.def --n-jobs=1000000000", "usage"),
-        ("parallel --module m.def --n-jobs=+1", "usage"),
-        ("parallel --module m.def --n-jobs=-", "usage"),
-        ("parallel --module m.def --n-jobs=", "usage"),
-        ("parallel --module m.def --pre-dispatch 2*n_jobs-2", "usage"),
-        ("parallel --module m.def --pre-dispatch 2**3", "usage"),
-        ("parallel --module m.def --batch-size 0", "usage"),
-        ("parallel --module m.def --batch-size=1K", "usage"),
-        ("parallel --module m.def --backend thread", "usage"),
-        ("parallel --module m.def --return-as tuple", "usage"),
-        ("parallel --module m.def --max-nbytes 1T", "usage"),
-        ("parallel --module m.def --temp-folder ..", "usage"),
-        ("parallel --module m.def x", "usage"),
-        ("parallel --module m.def -- x", "usage"),
-        ("parallel --n-jobs 2", "usage"),
+    ];
+    for (line, want) in rows {
+        assert!(rt; read(rt.alloc(), line)?.as_str() == want, "{line}");
+    }
+    Ok(())
+}
+
+#[test]
+fn parallel_takes_no_other_values_and_words(rt: HostRuntime) -> Result<(), Fail> {
+    let lines = [
+        "parallel --module m.def --n-jobs -1",
+        "parallel --module m.def --n-jobs=0",
+        "parallel --module m.def --n-jobs=-0",
+        "parallel --module m.def --n-jobs=1000000000",
+        "parallel --module m.def --n-jobs=+1",
+        "parallel --module m.def --n-jobs=-",
+        "parallel --module m.def --n-jobs=",
+        "parallel --module m.def --pre-dispatch 2*n_jobs-2",
+        "parallel --module m.def --pre-dispatch 2**3",
+        "parallel --module m.def --batch-size 0",
+        "parallel --module m.def --batch-size=1K",
+        "parallel --module m.def --backend thread",
+        "parallel --module m.def --return-as tuple",
+        "parallel --module m.def --max-nbytes 1T",
+        "parallel --module m.def --temp-folder ..",
+        "parallel --module m.def x",
+        "parallel --module m.def -- x",
+        "parallel --n-jobs 2",
+    ];
+    for line in lines {
+        assert!(rt; read(rt.alloc(), line)?.as_str() == "usage", "{line}");
+    }
+    Ok(())
+}
+
+#[test]
+fn session_sets_what_its_words_say(rt: HostRuntime) -> Result<(), Fail> {
+    let rows = [
         ("session --module m.def", "session m.def none"),
         ("session --location=c --module=m.def", "session m.def c"),
         ("session --module m.def --n-jobs 2", "usage"),
@@ -319,7 +359,7 @@ fn parallel_and_session_set_what_their_words_say(rt: HostRuntime) -> Result<(), 
 }
 
 #[test]
-fn the_other_commands_set_what_their_words_say(rt: HostRuntime) -> Result<(), Fail> {
+fn clear_sets_what_its_words_say(rt: HostRuntime) -> Result<(), Fail> {
     let rows = [
         ("clear --location c", "clear c none none none"),
         ("clear m --location c", "clear c m none none"),
@@ -328,31 +368,36 @@ fn the_other_commands_set_what_their_words_say(rt: HostRuntime) -> Result<(), Fa
             "clear m --location c square 99914b932bd37a50b983c5e7c90ae93b",
             "clear c m square 99914b932bd37a50b983c5e7c90ae93b",
         ),
-        (
-            "clear m square 99914B932bd37a50b983c5e7c90ae93b --location c",
-            "usage",
-        ),
-        (
-            "clear m square 99914b932bd37a50b983c5e7c90ae93 --location c",
-            "usage",
-        ),
-        (
-            "clear m square 99914b932bd37a50b983c5e7c90ae93bb --location c",
-            "usage",
-        ),
-        (
-            "clear m square 99914b932bd37a50b983c5e7c90ae93g --location c",
-            "usage",
-        ),
-        (
-            "clear m f 99914b932bd37a50b983c5e7c90ae93b x --location c",
-            "usage",
-        ),
-        ("clear 9m --location c", "usage"),
-        ("clear m --location c a/b", "usage"),
-        ("clear  --location c", "usage"),
-        ("clear m", "usage"),
-        ("clear --location c --module m", "usage"),
+    ];
+    for (line, want) in rows {
+        assert!(rt; read(rt.alloc(), line)?.as_str() == want, "{line}");
+    }
+    Ok(())
+}
+
+#[test]
+fn clear_takes_names_and_a_key_of_a_location(rt: HostRuntime) -> Result<(), Fail> {
+    let lines = [
+        "clear m square 99914B932bd37a50b983c5e7c90ae93b --location c",
+        "clear m square 99914b932bd37a50b983c5e7c90ae93 --location c",
+        "clear m square 99914b932bd37a50b983c5e7c90ae93bb --location c",
+        "clear m square 99914b932bd37a50b983c5e7c90ae93g --location c",
+        "clear m f 99914b932bd37a50b983c5e7c90ae93b x --location c",
+        "clear 9m --location c",
+        "clear m --location c a/b",
+        "clear  --location c",
+        "clear m",
+        "clear --location c --module m",
+    ];
+    for line in lines {
+        assert!(rt; read(rt.alloc(), line)?.as_str() == "usage", "{line}");
+    }
+    Ok(())
+}
+
+#[test]
+fn reduce_size_sets_what_its_words_say(rt: HostRuntime) -> Result<(), Fail> {
+    let rows = [
         ("reduce-size --location c", "reduce-size c none none none"),
         (
             "reduce-size --location c --items-limit 2",
@@ -379,6 +424,16 @@ fn the_other_commands_set_what_their_words_say(rt: HostRuntime) -> Result<(), Fa
         ("reduce-size --location c --age-limit=", "usage"),
         ("reduce-size --location c 2", "usage"),
         ("reduce-size --items-limit 2", "usage"),
+    ];
+    for (line, want) in rows {
+        assert!(rt; read(rt.alloc(), line)?.as_str() == want, "{line}");
+    }
+    Ok(())
+}
+
+#[test]
+fn worker_and_tracker_take_no_words(rt: HostRuntime) -> Result<(), Fail> {
+    let rows = [
         ("worker", "worker"),
         ("worker --", "worker"),
         ("worker x", "usage"),
@@ -386,6 +441,16 @@ fn the_other_commands_set_what_their_words_say(rt: HostRuntime) -> Result<(), Fa
         ("worker --location c", "usage"),
         ("tracker", "tracker"),
         ("tracker -", "usage"),
+    ];
+    for (line, want) in rows {
+        assert!(rt; read(rt.alloc(), line)?.as_str() == want, "{line}");
+    }
+    Ok(())
+}
+
+#[test]
+fn gen_sets_what_its_words_say(rt: HostRuntime) -> Result<(), Fail> {
+    let rows = [
         ("gen --location c --from 1 --count 3", "gen c 1 3"),
         (
             "gen --count=1000000 --from=2147483647 --location=c",
@@ -405,7 +470,7 @@ fn the_other_commands_set_what_their_words_say(rt: HostRuntime) -> Result<(), Fa
 }
 
 #[test]
-fn other_words_are_wrong_usage(rt: HostRuntime) -> Result<(), Fail> {
+fn words_begin_with_a_command(rt: HostRuntime) -> Result<(), Fail> {
     let lines = [
         "",
         "-",
@@ -417,6 +482,19 @@ fn other_words_are_wrong_usage(rt: HostRuntime) -> Result<(), Fail> {
         "Call --module m.def --location c f []",
         "calls --module m.def --location c f []",
         "--module m.def call --location c f []",
+    ];
+    for line in lines {
+        assert!(rt; read(rt.alloc(), line)?.as_str() == "usage", "{line}");
+    }
+    let none = Vec::new(rt.alloc());
+    let read = settings(rt.alloc(), none.as_slice(), 1024);
+    assert!(rt; matches!(&read, Err(SettingsFault::Usage)));
+    Ok(())
+}
+
+#[test]
+fn call_takes_each_option_once_with_its_value(rt: HostRuntime) -> Result<(), Fail> {
+    let lines = [
         "call",
         "call --help",
         "call --module",
@@ -435,6 +513,16 @@ fn other_words_are_wrong_usage(rt: HostRuntime) -> Result<(), Fail> {
         "call --module m.def --location -c f []",
         "call --module m.def --location c -x []",
         "call --module m.def --location c f -1",
+    ];
+    for line in lines {
+        assert!(rt; read(rt.alloc(), line)?.as_str() == "usage", "{line}");
+    }
+    Ok(())
+}
+
+#[test]
+fn call_takes_its_own_options_paths_and_modules(rt: HostRuntime) -> Result<(), Fail> {
+    let lines = [
         "call --module m.def --location c f [] --n-jobs 2",
         "call --modules m.def --location c f []",
         "call --mod m.def --location c f []",
@@ -452,6 +540,16 @@ fn other_words_are_wrong_usage(rt: HostRuntime) -> Result<(), Fail> {
         "call --module ../m.def --location c f []",
         "call --module m.def --location c/.. f []",
         "call --module m.def --location  f []",
+    ];
+    for line in lines {
+        assert!(rt; read(rt.alloc(), line)?.as_str() == "usage", "{line}");
+    }
+    Ok(())
+}
+
+#[test]
+fn hash_takes_one_value(rt: HostRuntime) -> Result<(), Fail> {
+    let lines = [
         "hash",
         "hash --",
         "hash {} {}",
@@ -462,9 +560,6 @@ fn other_words_are_wrong_usage(rt: HostRuntime) -> Result<(), Fail> {
     for line in lines {
         assert!(rt; read(rt.alloc(), line)?.as_str() == "usage", "{line}");
     }
-    let none = Vec::new(rt.alloc());
-    let read = settings(rt.alloc(), none.as_slice(), 1024);
-    assert!(rt; matches!(&read, Err(SettingsFault::Usage)));
     Ok(())
 }
 
