@@ -1,5 +1,6 @@
 -- What the endings of a run tell.
 use Rattle.std.proofs.Common.{◌≡◌, ◌≤◌, ◌∙◌, ◌⊎◌, ◌++◌, ℕ, List, [], Option, Some, None, ap, subst, sym, refl, inl, inr, arith, append-nil, false}
+use Rattle.std.specs.Prelude.{⊤}
 use Rattle.jl_text.specs.Paths.{PathView}
 use Rattle.jl_folder.specs.State.{is_file, AtSome}
 use Rattle.jl_text.specs.Counts.{Rose}
@@ -58,18 +59,18 @@ none_of_five : (n a b c d e : ℕ) → (n ≡ a → ⊥) → (n ≡ b → ⊥) �
 none_of_five n a b c d e na nb nc nd ne h = elim h [ inl p ↦ na p | inr h' ↦ none_of_four n b c d e nb nc nd ne h' ]
 
 -- at a whole output the module's own output stands
-pub answers_whole : (output : Command → List ℕ → Output) (given : Option Command) (T : Tells) (E : Type 0) (x : Scene) (Said : List ℕ → Type 0) (errors errors' : List ℕ) (e : Ended) (s : Command) → given ≡ Some s → RunEnds output given T x e → T.cache → T.folder → (E → (said : List ℕ) × Said said × (errors' ≡ errors ++ (said ++ last_text e))) → IsWhole (status_of e) → Answers (output s) (module_of s) T.out E x Said errors errors' (status_of e)
+pub answers_whole : (output : Command → List ℕ → Output) (given : Option Command) (T : Tells) (E : Type 0) (x : Scene) (Said : List ℕ → Type 0) (errors errors' : List ℕ) (e : Ended) (s : Command) → given ≡ Some s → RunEnds output given T x e → T.cache → T.folder → (E → (said : List ℕ) × Said said × (errors' ≡ errors ++ (said ++ last_text e))) → IsWhole (status_of e) → Answers (output s) (module_of s) (λ _. ⊤) T.out E x Said errors errors' (status_of e)
 answers_whole output given T E x Said errors errors' Done s is ends cache told said whole =
     let h = given_ends output given T x Done s is ends in
     let k = h.2 cache in
-    record { bytes = h.0; reads = h.1 told; status = k.0; written = k.2; text = λ c. let s = said c in (s.0, s.1, s.2 ∙ ap (λ t. errors ++ (s.0 ++ t)) (sym k.1)) }
+    record { bytes = h.0; reads = h.1 told; made = tt; status = k.0; written = k.2; text = λ c. let s = said c in (s.0, s.1, s.2 ∙ ap (λ t. errors ++ (s.0 ++ t)) (sym k.1)) }
 answers_whole output given T E x Said errors errors' (Failed t) s is ends cache told said whole =
     let h = given_ends output given T x (Failed t) s is ends in
-    record { bytes = h.0; reads = h.1 told; status = ap (λ o. o.status) h.2.0; written = λ o. h.2.1 o ∙ sym (append-nil _) ∙ ap (λ b. x.written ++ b) (sym (ap (λ o. o.bytes) h.2.0)); text = λ c. let s = said c in (s.0, s.1, s.2 ∙ ap (λ b. errors ++ (s.0 ++ b)) (sym (ap (λ o. o.text) h.2.0))) }
+    record { bytes = h.0; reads = h.1 told; made = tt; status = ap (λ o. o.status) h.2.0; written = λ o. h.2.1 o ∙ sym (append-nil _) ∙ ap (λ b. x.written ++ b) (sym (ap (λ o. o.bytes) h.2.0)); text = λ c. let s = said c in (s.0, s.1, s.2 ∙ ap (λ b. errors ++ (s.0 ++ b)) (sym (ap (λ o. o.text) h.2.0))) }
 answers_whole output given T E x Said errors errors' (Refused t) s is ends cache told said whole =
     let h = given_ends output given T x (Refused t) s is ends in
     let o_is = h.2.0 cache in
-    record { bytes = h.0; reads = h.1 told; status = ap (λ o. o.status) o_is; written = λ o. h.2.1 o ∙ sym (append-nil _) ∙ ap (λ b. x.written ++ b) (sym (ap (λ o. o.bytes) o_is)); text = λ c. let s = said c in (s.0, s.1, s.2 ∙ ap (λ b. errors ++ (s.0 ++ b)) (sym (ap (λ o. o.text) o_is))) }
+    record { bytes = h.0; reads = h.1 told; made = tt; status = ap (λ o. o.status) o_is; written = λ o. h.2.1 o ∙ sym (append-nil _) ∙ ap (λ b. x.written ++ b) (sym (ap (λ o. o.bytes) o_is)); text = λ c. let s = said c in (s.0, s.1, s.2 ∙ ap (λ b. errors ++ (s.0 ++ b)) (sym (ap (λ o. o.text) o_is))) }
 answers_whole output given T E x Said errors errors' Usage s is ends cache told said whole = absurd (none_of_three 2 0 1 3 (λ e. omega arith) (λ e. omega arith) (λ e. omega arith) whole)
 answers_whole output given T E x Said errors errors' ReadFault s is ends cache told said whole = absurd (none_of_three 5 0 1 3 (λ e. omega arith) (λ e. omega arith) (λ e. omega arith) whole)
 answers_whole output given T E x Said errors errors' WriteFault s is ends cache told said whole = absurd (none_of_three 6 0 1 3 (λ e. omega arith) (λ e. omega arith) (λ e. omega arith) whole)
@@ -78,11 +79,11 @@ answers_whole output given T E x Said errors errors' NoModule s is ends cache to
 answers_whole output given T E x Said errors errors' FolderFault s is ends cache told said whole = absurd (none_of_three 10 0 1 3 (λ e. omega arith) (λ e. omega arith) (λ e. omega arith) whole)
 
 -- at a write fault a front of it does
-pub answers_front : (output : Command → List ℕ → Output) (given : Option Command) (T : Tells) (x : Scene) (e : Ended) (s : Command) → given ≡ Some s → RunEnds output given T x e → T.cache → T.folder → status_of e ≡ 6 → AnswersFront (output s) (module_of s) T.out x
+pub answers_front : (output : Command → List ℕ → Output) (given : Option Command) (T : Tells) (x : Scene) (e : Ended) (s : Command) → given ≡ Some s → RunEnds output given T x e → T.cache → T.folder → status_of e ≡ 6 → AnswersFront (output s) (module_of s) (λ _. ⊤) T.out x
 answers_front output given T x WriteFault s is ends cache told n =
     let h = given_ends output given T x WriteFault s is ends in
     let k = h.2.1 cache in
-    record { bytes = h.0; reads = h.1 told; status = k.0; front = k.1 }
+    record { bytes = h.0; reads = h.1 told; made = tt; status = k.0; front = k.1 }
 answers_front output given T x Done s is ends cache told n = absurd (omega arith)
 answers_front output given T x (Failed t) s is ends cache told n = absurd (omega arith)
 answers_front output given T x (Refused t) s is ends cache told n = absurd (omega arith)
@@ -281,9 +282,9 @@ wrote_clear Wrote bytes w w' T R h fails told clear = h told
 wrote_clear Fault bytes w w' T R h fails told clear = absurd (clear (fails refl))
 
 -- the same at a number that is the status
-pub answers_at : (output : Command → List ℕ → Output) (given : Option Command) (T : Tells) (E : Type 0) (x : Scene) (Said : List ℕ → Type 0) (errors errors' : List ℕ) (e : Ended) (s : Command) (n : ℕ) → n ≡ status_of e → given ≡ Some s → RunEnds output given T x e → T.cache → T.folder → (E → (said : List ℕ) × Said said × (errors' ≡ errors ++ (said ++ last_text e))) → IsWhole n → Answers (output s) (module_of s) T.out E x Said errors errors' n
+pub answers_at : (output : Command → List ℕ → Output) (given : Option Command) (T : Tells) (E : Type 0) (x : Scene) (Said : List ℕ → Type 0) (errors errors' : List ℕ) (e : Ended) (s : Command) (n : ℕ) → n ≡ status_of e → given ≡ Some s → RunEnds output given T x e → T.cache → T.folder → (E → (said : List ℕ) × Said said × (errors' ≡ errors ++ (said ++ last_text e))) → IsWhole n → Answers (output s) (module_of s) (λ _. ⊤) T.out E x Said errors errors' n
 answers_at output given T E x Said errors errors' e s n at is ends cache told said whole =
-    subst (λ (k : ℕ). Answers (output s) (module_of s) T.out E x Said errors errors' k) (sym at)
+    subst (λ (k : ℕ). Answers (output s) (module_of s) (λ _. ⊤) T.out E x Said errors errors' k) (sym at)
     (answers_whole output given T E x Said errors errors' e s is ends cache told said (subst (λ (k : ℕ). IsWhole k) at whole))
 
 -- what was computed and written is how the command finishes

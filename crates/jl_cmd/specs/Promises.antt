@@ -36,10 +36,12 @@ text_of_status n =
     (if nat_eq n status.no_module then error_line (codes "no module") else
     error_line (codes "folder fault")))))
 
--- the output is that of the module's bytes as this run read them: its bytes, its status and its last text, behind what was said before
-pub record Answers (output : List ℕ → Output) (path : Option PathView) (out_tells err_clear : Type 0) (x : Scene) (Said : List ℕ → Type 0) (errors errors' : List ℕ) (n : ℕ) : Type 0 where
+-- the output is that of the module's bytes as this run read them, or of a line that was made so: its bytes, its status and its last text, behind
+-- what was said before
+pub record Answers (output : List ℕ → Output) (path : Option PathView) (Made : List ℕ → Type 0) (out_tells err_clear : Type 0) (x : Scene) (Said : List ℕ → Type 0) (errors errors' : List ℕ) (n : ℕ) : Type 0 where
   pub bytes : List ℕ
   pub reads : ReadsModule path bytes x
+  pub made : Made bytes
   pub status : (output bytes).status ≡ n
   pub written : out_tells → x.written' ≡ x.written ++ (output bytes).bytes
   pub text : err_clear → (said : List ℕ) × Said said × (errors' ≡ errors ++ (said ++ (output bytes).text))
@@ -60,9 +62,10 @@ abbrev pub IsComplete : ℕ → Type 0
 IsComplete n = (n ≡ status.done) ⊎ ((n ≡ status.task_error) ⊎ (n ≡ status.no_memory))
 
 -- a front of that output was written, and the output failed
-pub record AnswersFront (output : List ℕ → Output) (path : Option PathView) (out_tells : Type 0) (x : Scene) : Type 0 where
+pub record AnswersFront (output : List ℕ → Output) (path : Option PathView) (Made : List ℕ → Type 0) (out_tells : Type 0) (x : Scene) : Type 0 where
   pub bytes : List ℕ
   pub reads : ReadsModule path bytes x
+  pub made : Made bytes
   pub status : (output bytes).status ≡ status.done
   pub front : out_tells → WritesPrefix (output bytes).bytes x.written x.written'
 

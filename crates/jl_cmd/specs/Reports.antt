@@ -53,3 +53,12 @@ GivenReduces (Some (clear location m f key)) IsMoment tells out_tells token old 
 GivenReduces (Some (reduce_size location limits)) IsMoment tells out_tells token old new x n =
     (e : Ended) × (n ≡ status_of e) × EndsReducing e (IsReported location limits IsMoment tells token old new) out_tells x
 GivenReduces (Some tracker) IsMoment tells out_tells token old new x n = ⊤
+
+-- the line that a command prints was made so: `reduce-size` tells of what it reports, and no other command has such a line
+abbrev pub MadeBy : Command → (IsMoment : ℕ → Type 0) → (tells : Type 0) → (token : List ℕ) → (old new : History) → List ℕ → Type 0
+MadeBy (call file location name args) IsMoment tells token old new line = ⊤
+MadeBy (hash args) IsMoment tells token old new line = ⊤
+MadeBy (clear location m f key) IsMoment tells token old new line = ⊤
+MadeBy (reduce_size location limits) IsMoment tells token old new line =
+    (count bytes : ℕ) × IsReported location limits IsMoment tells token old new count bytes × (line ≡ report_of count bytes)
+MadeBy tracker IsMoment tells token old new line = ⊤

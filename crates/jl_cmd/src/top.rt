@@ -10,7 +10,7 @@ ghost use Rattle.jl_cmd.specs.Endings.{RunEnds, LacksModule, scene, tells, statu
 ghost use Rattle.jl_cmd.specs.Following.{GivenFollows, GivenTracks};
 ghost use Rattle.jl_streams.specs.Moments.{moment_of};
 ghost use Rattle.jl_cmd.specs.Clears.{GivenClears};
-ghost use Rattle.jl_cmd.specs.Reports.{GivenReduces};
+ghost use Rattle.jl_cmd.specs.Reports.{GivenReduces, MadeBy};
 ghost use Rattle.jl_cmd.specs.Promises.{IsWhole, IsSilent, IsStatus, Answers, AnswersFront, CountsCalls, IsValid, IsFaultless, IsComplete, text_of_status};
 ghost use Rattle.jl_cmd.specs.Calling.{EndedAt, course};
 ghost use Rattle.jl_cmd.specs.Saying.{GivenLines, SaidBy, GivenLeaves, StatusAt};
@@ -177,13 +177,13 @@ pub fn run<L: Library, F: Folder, S: Source, O: Sink, E: Sink, H: Host>(
     // The headline: where the cache folder was sound and each other run kept its rules, the whole output stands at the statuses 0, 1 and 3: that of the module's bytes, under their own code.
     ensures output { (s : Command) → given_of (map string_bytes words.now) (H.processors host.old) ≡ Some s → IsWhole result
         → OthersAreLawful s L.answer (F.told folder.old) (S.told input.old) (F.token folder.old) (F.history folder.old) (F.history folder.new)
-        → Answers (output_of L.code L.fault L.answer (S.left input.old) s) (module_of s) (O.told out.old) (E.told err.old × (Rose (E.faults err.old) (E.faults err.new) → ⊥))
+        → Answers (output_of L.code L.fault L.answer (S.left input.old) s) (module_of s) (MadeBy s (λ n. H.told host.old → n ≡ moment_of (H.moments host.old)) (F.told folder.old) (F.token folder.old) (F.history folder.old) (F.history folder.new)) (O.told out.old) (E.told err.old × (Rose (E.faults err.old) (E.faults err.new) → ⊥))
         (scene (F.history folder.old) (F.history folder.new) (F.faults folder.old) (F.faults folder.new) (O.written out.old) (O.written out.new) (O.faults out.old) (O.faults out.new) (S.faults input.old) (S.faults input.new))
         (SaidBy (Some s) (course L.code L.line (F.told folder.old) (F.token folder.old) (F.history folder.old) (F.history folder.new) (F.faults folder.old) (F.faults folder.new))) (E.written err.old) (E.written err.new) result }
     // A front of it at a write fault.
     ensures write_fault { (s : Command) → given_of (map string_bytes words.now) (H.processors host.old) ≡ Some s → result ≡ 6
         → OthersAreLawful s L.answer (F.told folder.old) (S.told input.old) (F.token folder.old) (F.history folder.old) (F.history folder.new)
-        → AnswersFront (output_of L.code L.fault L.answer (S.left input.old) s) (module_of s) (O.told out.old)
+        → AnswersFront (output_of L.code L.fault L.answer (S.left input.old) s) (module_of s) (MadeBy s (λ n. H.told host.old → n ≡ moment_of (H.moments host.old)) (F.told folder.old) (F.token folder.old) (F.history folder.old) (F.history folder.new)) (O.told out.old)
         (scene (F.history folder.old) (F.history folder.new) (F.faults folder.old) (F.faults folder.new) (O.written out.old) (O.written out.new) (O.faults out.old) (O.faults out.new) (S.faults input.old) (S.faults input.new)) }
     ensures write_fault_rose { result ≡ 6 → Rose (O.faults out.old) (O.faults out.new) }
     // Nothing at every other status.

@@ -11,6 +11,8 @@ use Rattle.jl_cmd.proofs.EndingLemmas.{answers_at, answers_front, silent_at, fol
 use Rattle.jl_cmd.proofs.TrackerEnds.{run_says, runs_tracker}
 use Rattle.jl_cmd.proofs.ClearEnds.{clears_at}
 use Rattle.jl_cmd.proofs.ReduceEnds.{reduces_at}
+use Rattle.jl_cmd.proofs.MadeAnswers.{reduces_of, answers_made, front_made}
+use Rattle.jl_streams.specs.Moments.{moment_of}
 use Rattle.jl_cmd.proofs.top.run.Goals as goal
 
 pub returns-clause-output : goal.returns-clause-output
@@ -22,11 +24,15 @@ returns-clause-output g c = λ s is whole theirs.
     let errors = E.written c.args.err.now in
     let errors' = E.written c.report.new.err in
     let last = last_text c.command-warned.result.ended in
-    answers_at _ _ _ _ _ (SaidBy (Some s) w) errors errors' _ s _ c.status.ensures is c.command-warned.ensures.ends trust theirs.told
+    let lib = g.L.Library in
+    let host = g.H.Host in
+    answers_made lib.code lib.fault lib.answer (g.S.Source.left c.args.input.now) s (λ n. host.told c.args.host.now → n ≡ moment_of (host.moments c.args.host.now)) _ _ _ _ _ _ _ (SaidBy (Some s) w) errors errors' c.status.result whole
+    (reduces_of _ s _ _ _ _ _ _ _ _ _ is c.status.ensures c.command-warned.ensures.reduces)
+    (answers_at _ _ _ _ _ (SaidBy (Some s) w) errors errors' _ s _ c.status.ensures is c.command-warned.ensures.ends trust theirs.told
     (λ clear.
     subst (λ (o : Option Command). (said : List ℕ) × SaidBy o w said × (errors' ≡ errors ++ (said ++ last))) is
     (run_says _ w _ _ _ _ _ _ _ _ _ _ errors' c.command-warned.result.lines last _ _ c.command-warned.result.ended (λ none. ap E.written (c.command-warned.ensures.quiet none)) c.command-warned.ensures.follows c.command-warned.ensures.lines clear.0 c.command-warned.ensures.err_later c.report.ensures.later clear.1 (c.report.ensures.text (c.command-warned.ensures.err_told clear.0))))
-    whole
+    whole)
 
 pub returns-clause-text : goal.returns-clause-text
 returns-clause-text g c = λ n told clear.
@@ -57,7 +63,11 @@ returns-clause-read_fault g c = λ n. read_fault_rose _ _ _ _ _ c.command-warned
 pub returns-clause-write_fault : goal.returns-clause-write_fault
 returns-clause-write_fault g c = λ s is six theirs.
     let trust = trusting_given _ s _ _ _ _ _ _ _ is theirs (c.command-warned.ensures.lawful theirs.told) in
-    answers_front _ _ _ _ _ s is c.command-warned.ensures.ends trust theirs.told (sym c.status.ensures ∙ six)
+    let lib = g.L.Library in
+    let host = g.H.Host in
+    front_made lib.code lib.fault lib.answer (g.S.Source.left c.args.input.now) s (λ n. host.told c.args.host.now → n ≡ moment_of (host.moments c.args.host.now)) _ _ _ _ _ _ c.status.result six
+    (reduces_of _ s _ _ _ _ _ _ _ _ _ is c.status.ensures c.command-warned.ensures.reduces)
+    (answers_front _ _ _ _ _ s is c.command-warned.ensures.ends trust theirs.told (sym c.status.ensures ∙ six))
 
 pub returns-clause-write_fault_rose : goal.returns-clause-write_fault_rose
 returns-clause-write_fault_rose g c = λ n. write_fault_rose _ _ _ _ _ c.command-warned.ensures.ends (sym c.status.ensures ∙ n)
