@@ -96,6 +96,8 @@ written_at (computed.Failed t) e P tells f f' w w' (inl x) h = subst (λ (e' : E
 written_at (computed.Refused t) e P tells f f' w w' (inl x) h = subst (λ (e' : Ended). EndedAt e' P) (sym x.0) tt
 written_at computed.NoMemory e P tells f f' w w' (inl x) h = memory_at_end e P x.0
 
+-- ---- statuses of answers
+
 -- a number that is neither of two
 neither : (n : ℕ) → (n ≡ 0 → ⊥) → (n ≡ 1 → ⊥) → (n ≡ 0) ⊎ (n ≡ 1) → ⊥
 neither n zero one (inl e) = zero e
@@ -190,10 +192,10 @@ named_memory x file location m token e named g is = memory_same x location m tok
 
 module _ (w : Course) (file location : PathView) (memory : Memory) (at : memory.location ≡ location) (named : module_name_of file ≡ Some memory.«module») (by : memory.token ≡ w.token) (bytes name args : List ℕ) (mid : History) where
   -- the lines of the warnings of the call
-  pub call_lines : (lines : List ℕ) (none items : List Warning) (f1 : ℕ) (tells' : Type 0) → none ≡ [] → (w.tells → GoesOn w.old mid) → (w.tells → GoesOn mid w.new) → (w.tells → tells') → w.faults ≤ f1 → (w.tells → ReadsFirst file bytes (now w.old) (since w.old w.new)) → (lines ≡ warning_lines memory.«module» items) ⊎ (lines ≡ [])
+  pub call_lines : (lines : List ℕ) (ended : Ended) (none items : List Warning) (f1 : ℕ) (tells' : Type 0) → none ≡ [] → (w.tells → GoesOn w.old mid) → (w.tells → GoesOn mid w.new) → (w.tells → tells') → w.faults ≤ f1 → (w.tells → ReadsFirst file bytes (now w.old) (since w.old w.new)) → (lines ≡ warning_lines memory.«module» items) ⊎ ((lines ≡ []) × (ended ≡ NoMemory))
       → CallWarns w.code w.line memory bytes name args tells' f1 w.faults' mid w.new none items → (m : List ℕ) → module_name_of file ≡ Some m → (ws : List Warning) × (lines ≡ warning_lines m ws) × AreOfCall w file (memory_at location m w.token) name args ws
-  call_lines lines none items f1 tells' empty first second go later reads (inr silent) warns m is = ([], silent, inl refl)
-  call_lines lines none items f1 tells' empty first second go later reads (inl said) warns m is =
+  call_lines lines ended none items f1 tells' empty first second go later reads (inr silent) warns m is = ([], silent.0, inl refl)
+  call_lines lines ended none items f1 tells' empty first second go later reads (inl said) warns m is =
       let same = named_memory memory file location m w.token at named by is in
       let added : items ≡ warns.0 = warns.1 ∙ ap (λ (l : List Warning). l ++ warns.0) empty in
       (items, said ∙ ap (λ (x : Memory). warning_lines x.«module» items) same, subst (λ (x : Memory). AreOfCall w file x name args items) same (of_call warns.0 added warns.2))

@@ -1,8 +1,7 @@
 -- What the endings of a run tell.
-use Rattle.std.proofs.Common.{◌≡◌, ◌≤◌, ◌∙◌, ◌⊎◌, ◌++◌, ℕ, List, [], Option, Some, None, ap, subst, sym, refl, inl, inr, arith, append-nil, false}
+use Rattle.std.proofs.Common.{◌≡◌, ◌≤◌, ◌∙◌, ◌⊎◌, ◌++◌, ℕ, List, Option, Some, None, ap, subst, sym, refl, inl, inr, arith, append-nil}
 use Rattle.std.specs.Prelude.{⊤}
 use Rattle.jl_text.specs.Paths.{PathView}
-use Rattle.jl_folder.specs.State.{is_file, AtSome}
 use Rattle.jl_text.specs.Counts.{Rose}
 use Rattle.jl_laws.proofs.Before.{some_not_none}
 use Rattle.jl_streams.specs.Streams.{WritesAll, WritesPrefix}
@@ -17,7 +16,7 @@ use Rattle.jl_cmd.specs.Promises.{IsWhole, IsSilent, IsStatus, Answers, AnswersF
 use Rattle.jl_cmd.specs.Commands.{call, hash, clear as clears, reduce_size, tracker}
 use Rattle.jl_cmd.specs.declared.computed.Computed.{Computed}
 use Rattle.jl_cmd.specs.declared.computed.Computed.TheVariants as computed
-use Rattle.jl_cmd.specs.Run.{Computes, Writes, WritesWarned, Calls, GivenCalls, AreCalling}
+use Rattle.jl_cmd.specs.Run.{Computes, WritesWarned, Calls, GivenCalls, AreCalling}
 
 -- an output that was computed from the module read, and written
 pub finishes_command : (output : List ℕ → Output) (path : Option PathView) (T : Tells) (x : Scene) (e : Ended) (m : List ℕ) → (T.folder → ReadsModule path m x) → Finishes (output m) T x e → CommandEnds output path T x e
@@ -55,7 +54,7 @@ none_of_four : (n a b c d : ℕ) → (n ≡ a → ⊥) → (n ≡ b → ⊥) →
 none_of_four n a b c d na nb nc nd h = elim h [ inl e ↦ na e | inr h' ↦ none_of_three n b c d nb nc nd h' ]
 
 -- none of five
-none_of_five : (n a b c d e : ℕ) → (n ≡ a → ⊥) → (n ≡ b → ⊥) → (n ≡ c → ⊥) → (n ≡ d → ⊥) → (n ≡ e → ⊥) → (n ≡ a) ⊎ ((n ≡ b) ⊎ ((n ≡ c) ⊎ ((n ≡ d) ⊎ (n ≡ e)))) → ⊥
+pub none_of_five : (n a b c d e : ℕ) → (n ≡ a → ⊥) → (n ≡ b → ⊥) → (n ≡ c → ⊥) → (n ≡ d → ⊥) → (n ≡ e → ⊥) → (n ≡ a) ⊎ ((n ≡ b) ⊎ ((n ≡ c) ⊎ ((n ≡ d) ⊎ (n ≡ e)))) → ⊥
 none_of_five n a b c d e na nb nc nd ne h = elim h [ inl p ↦ na p | inr h' ↦ none_of_four n b c d e nb nc nd ne h' ]
 
 -- at a whole output the module's own output stands

@@ -4,6 +4,7 @@ pub mod CallingLemmas
 pub mod ClearEnds
 pub mod ClearLemmas
 pub mod EndingLemmas
+pub mod IdleLemmas
 pub mod MadeAnswers
 pub mod ReduceEnds
 pub mod TrackerEnds

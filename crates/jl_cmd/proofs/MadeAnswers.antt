@@ -1,5 +1,5 @@
 -- The output of a command, made as it is.
-use Rattle.std.proofs.Common.{◌≡◌, ◌∙◌, ◌⊎◌, inl, inr, ℕ, List, Option, Some, refl, sym, subst, arith}
+use Rattle.std.proofs.Common.{◌≡◌, ◌∙◌, inl, inr, ℕ, List, Option, Some, refl, sym, subst, arith}
 use Rattle.std.specs.Prelude.{⊤}
 use Rattle.jl_folder.specs.State.{History}
 use Rattle.jl_value.specs.declared.library.ModuleFault.{ModuleFault}

@@ -57,6 +57,10 @@ pub record Course : Type 1 where
 abbrev pub course : (code : List ℕ → List ℕ → Option (List ℕ)) → (line : List ℕ → List ℕ → ℕ) → (tells : Type 0) → (token : List ℕ) → (old new : History) → (faults faults' : ℕ) → Course
 course code line tells token old new f f' = record { code = code; line = line; tells = tells; token = token; old = old; new = new; faults = f; faults' = f' }
 
+-- the course of a folder, before and after
+abbrev pub course_of : {F : Type 0} → (code : List ℕ → List ℕ → Option (List ℕ)) → (line : List ℕ → List ℕ → ℕ) → (told : F → Type 0) → (token : F → List ℕ) → (history : F → History) → (faults : F → ℕ) → (folder folder' : F) → Course
+course_of code line told token history faults folder folder' = course code line (told folder) (token folder) (history folder) (history folder') (faults folder) (faults folder')
+
 -- warnings of a call: none, or such as are on this function and these arguments, and have their cause by the code that the module's bytes,
 -- as this run read them, give the function
 abbrev pub AreOfCall : Course → (file : PathView) → Memory → (name args : List ℕ) → List Warning → Type 0

@@ -1,5 +1,5 @@
 -- The commands that the program has, and which of them words give.
-use Rattle.std.specs.Prelude.{ℕ, List, Option, Some, None}
+use Rattle.std.specs.Prelude.{ℕ, List, Option, Some, None, String, map, string_bytes}
 use Rattle.std.specs.Option.{option_and_then}
 use Rattle.jl_text.specs.Paths.{PathView}
 use Rattle.jl_limits.specs.declared.limits.Limits.{Limits}
@@ -31,3 +31,7 @@ command_of (Gen location start count) = None
 -- the command that words give, on a machine with so many processors
 abbrev pub given_of : List (List ℕ) → ℕ → Option Command
 given_of words cpus = option_and_then command_of (settings_of words cpus)
+
+-- the command that a program's words give
+abbrev pub given_by : {Z : Type 0} → List (String Z) → ℕ → Option Command
+given_by words cpus = given_of (map string_bytes words) cpus

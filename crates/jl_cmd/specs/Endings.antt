@@ -53,6 +53,11 @@ pub record Scene : Type 0 where
 abbrev pub scene : History → History → (folder_faults folder_faults' : ℕ) → (written written' : List ℕ) → (out_faults out_faults' : ℕ) → (input_faults input_faults' : ℕ) → Scene
 scene old new f f' w w' g g' i i' = record { state = now old; steps = since old new; folder_faults = f; folder_faults' = f'; written = w; written' = w'; out_faults = g; out_faults' = g'; input_faults = i; input_faults' = i' }
 
+-- the scene of a folder, an output and an input, before and after
+abbrev pub scene_of : {F O S : Type 0} → (history : F → History) → (faults : F → ℕ) → (folder folder' : F) → (written : O → List ℕ) → (out_faults : O → ℕ) → (out out' : O) → (input_faults : S → ℕ) → (input input' : S) → Scene
+scene_of history faults folder folder' written out_faults out out' input_faults input input' =
+    scene (history folder) (history folder') (faults folder) (faults folder') (written out) (written out') (out_faults out) (out_faults out') (input_faults input) (input_faults input')
+
 -- what a run is told of: whether its folder tells, whether its output does, and whether what its output rests on holds: that the cache folder
 -- was sound and others kept its rules, or that the input tells
 pub record Tells : Type 1 where

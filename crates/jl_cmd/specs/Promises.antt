@@ -1,10 +1,10 @@
 -- What a run promises, by its exit status.
-use Rattle.std.specs.Prelude.{◌≡◌, ◌≢◌, ◌⊎◌, ℕ, List, [], ◌++◌, Option, Bool, false, if◌then◌else◌, nat_eq, codes}
+use Rattle.std.specs.Prelude.{◌≡◌, ◌≢◌, ◌⊎◌, ℕ, List, ◌++◌, Option, Some, None, if◌then◌else◌, nat_eq, codes, ⊤}
 use Rattle.jl_text.specs.Paths.{PathView}
-use Rattle.jl_folder.specs.State.{is_file, AtSome}
 use Rattle.jl_text.specs.Counts.{Rose}
 use Rattle.jl_streams.specs.Streams.{WritesPrefix}
 use Rattle.jl_value.specs.Library.{next_count}
+use Rattle.jl_cmd.specs.Commands.{Command, call, hash, clear, reduce_size, tracker}
 use Rattle.jl_cmd.specs.Output.{Output}
 use Rattle.jl_cmd.specs.Endings.{Scene, ReadsModule, LacksModule}
 use Rattle.jl_cmd.specs.Statuses as status
@@ -25,6 +25,16 @@ IsStatus n = IsWhole n ⊎ (IsSilent n ⊎ (n ≡ status.write_fault))
 -- the statuses at which no function was called
 abbrev pub IsUncalled : ℕ → Type 0
 IsUncalled n = (n ≡ status.usage) ⊎ ((n ≡ status.refused) ⊎ ((n ≡ status.no_module) ⊎ ((n ≡ status.folder_fault) ⊎ (n ≡ status.read_fault))))
+
+-- the statuses at which a command made no move of its own: those at which no function was called, but for those that come after moves too: a fault of
+-- the folder in clearing and reducing, too much input and a fault of the input in tracking. Without a command or a folder there are no moves at all
+abbrev pub IsUnmoved : Option Command → ℕ → Type 0
+IsUnmoved None n = ⊤
+IsUnmoved (Some (call file location name args)) n = IsUncalled n
+IsUnmoved (Some (hash args)) n = ⊤
+IsUnmoved (Some (clear location m f key)) n = IsUncalled n × (n ≢ status.folder_fault)
+IsUnmoved (Some (reduce_size location limits)) n = IsUncalled n × (n ≢ status.folder_fault)
+IsUnmoved (Some tracker) n = IsUncalled n × (n ≢ status.refused) × (n ≢ status.read_fault)
 
 -- the last text on the error stream at a status that has one text alone
 abbrev pub text_of_status : ℕ → List ℕ

@@ -4,6 +4,7 @@ use Rattle.std.specs.Fmt.{decimal}
 use Rattle.jl_text.specs.Counts.{Rose}
 use Rattle.jl_text.specs.Paths.{PathView}
 use Rattle.jl_folder.specs.State.{History, now, since}
+use Rattle.jl_streams.specs.Moments.{moment_of}
 use Rattle.jl_streams.specs.Streams.{WritesPrefix}
 use Rattle.jl_entry.specs.Names.{root_of}
 use Rattle.jl_limits.specs.declared.limits.Limits.{Limits}
@@ -22,6 +23,10 @@ use Rattle.jl_cmd.specs.Endings.{Scene, status_of}
 -- the line that tells how many items went, and how many bytes they had
 unfoldable pub report_of : (count bytes : ℕ) → List ℕ
 report_of count bytes = codes "deleted " ++ (decimal count ++ (codes " items " ++ (decimal bytes ++ (codes " bytes" ++ 10 ∷ []))))
+
+-- the first of the moments that a clock is still to tell, where it tells them
+abbrev pub IsMomentOf : (clock_tells : Type 0) → (moments : List ℕ) → ℕ → Type 0
+IsMomentOf clock_tells moments n = clock_tells → n ≡ moment_of moments
 
 -- So many items with so many bytes were chosen by the limits, at such a moment, and the run's own moves took away names of theirs alone.
 -- Where no other moved, they were chosen among the items that the cache had, and they are gone, and nothing else.

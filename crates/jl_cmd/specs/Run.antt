@@ -51,6 +51,13 @@ IsRefused (computed.Failed t) = ⊥
 IsRefused (computed.Refused t) = Unit {0}
 IsRefused computed.NoMemory = Unit {0}
 
+-- something was refused
+abbrev pub IsRefusal : Computed → Type 0
+IsRefusal (computed.Printed t) = ⊥
+IsRefusal (computed.Failed t) = ⊥
+IsRefusal (computed.Refused t) = Unit {0}
+IsRefusal computed.NoMemory = ⊥
+
 -- it is a value's, or memory was wanting
 abbrev pub IsPrinted : Computed → Type 0
 IsPrinted (computed.Printed t) = Unit {0}

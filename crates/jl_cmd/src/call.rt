@@ -4,17 +4,18 @@ ghost use Rattle.jl_text.specs.Texts.{is_name};
 ghost use Rattle.jl_entry.specs.Names.{root_of};
 ghost use Rattle.jl_laws.specs.Tidy.{IsSound};
 ghost use Rattle.jl_laws.specs.Proper.{IsLawful};
-ghost use Rattle.jl_claims.specs.Claims.{Called as CallsFolder};
+ghost use Rattle.jl_claims.specs.Claims.{Called as CallsFolder, Silent};
 ghost use Rattle.jl_text.specs.Counts.{Rose};
 ghost use Rattle.jl_folder.specs.State.{now, since};
-ghost use Rattle.jl_claims.specs.Steps.{IsLone};
+ghost use Rattle.jl_claims.specs.Steps.{IsLone, OwnMoves};
 ghost use Rattle.jl_store.specs.Cached.{AnyMove};
 ghost use Rattle.jl_store.specs.declared.memory.Warning.{Warning};
 ghost use Rattle.jl_store.specs.Trust.{IsTrusted};
 ghost use Rattle.jl_words.specs.ModuleNames.{module_name_of};
 ghost use Rattle.jl_cmd.specs.Output.{call_output};
 ghost use Rattle.jl_cmd.specs.Texts.{warning_lines};
-ghost use Rattle.jl_cmd.specs.Endings.{CommandEnds, scene, tells};
+ghost use Rattle.jl_cmd.specs.Endings.{CommandEnds, scene, tells, status_of};
+ghost use Rattle.jl_cmd.specs.Promises.{IsUncalled};
 ghost use Rattle.jl_cmd.specs.Calling.{AreOfCall, LeavesRead, EndedAt, course, memory_at};
 ghost use Rattle.jl_cmd.specs.Run.{Writes, WritesWarned, Counts, Calls};
 
@@ -99,7 +100,7 @@ fn written<O: Sink>(
     warnings: &[Warning],
 ) -> Warned
     ensures writes { WritesWarned computed result.ended (O.told out.old) (O.faults out.old) (O.faults out.new) (O.written out.old) (O.written out.new) }
-    ensures lines { (result.lines ≡ warning_lines memory.now.«module» warnings.now) ⊎ (result.lines ≡ []) }
+    ensures lines { (result.lines ≡ warning_lines memory.now.«module» warnings.now) ⊎ ((result.lines ≡ []) × (result.ended ≡ Ended.NoMemory)) }
     ensures calls { (old new : ℕ) → Counts computed old new → Calls result.ended old new }
     ensures told { O.told out.old → O.told out.new }
     ensures later { O.faults out.old ≤ O.faults out.new }
@@ -137,6 +138,7 @@ pub fn call<L: Library, F: Folder, O: Sink, H: Host>(
     ensures calls { Calls result.ended (L.calls lib.old) (L.calls lib.new) }
     ensures lawful { F.told folder.old → CallsFolder (IsLawful (root_of location.now) L.answer) (IsLawful (root_of location.now) L.answer) (F.token folder.old) AnyMove
         (IsSound (root_of location.now) L.answer) (IsSound (root_of location.now) L.answer) (F.history folder.old) (F.history folder.new) }
+    ensures idle { F.told folder.old → IsUncalled (status_of result.ended) → OwnMoves (F.token folder.old) Silent (since (F.history folder.old) (F.history folder.new)) }
     ensures told { F.told folder.old → F.told folder.new }
     ensures token { F.token folder.new ≡ F.token folder.old }
     ensures opens { F.opens folder.new ≡ F.opens folder.old }

@@ -18,7 +18,7 @@ ghost use Rattle.jl_store.specs.Cached.{AnyMove};
 ghost use Rattle.jl_store.specs.Trust.{IsTrusted};
 ghost use Rattle.jl_cmd.specs.Output.{call_output, called as called_of, answers};
 ghost use Rattle.jl_cmd.specs.Calling.{CallWarns, LeavesAsked, LeavesCalled, ComputedAt};
-ghost use Rattle.jl_cmd.specs.Run.{Computes, Counts};
+ghost use Rattle.jl_cmd.specs.Run.{Computes, Counts, IsRefusal};
 
 use crate::arguments::{ArgumentsFault, read_arguments};
 use crate::computed::{Computed, failed, printed, refused_arguments, refused_module};
@@ -59,6 +59,7 @@ fn answered<L: Library, F: Folder, H: Host>(
     ensures alone { F.told folder.old → (c : List ℕ) (n : ℕ) → L.code (L.loaded lib.old) name.now ≡ Some c → L.line (L.loaded lib.old) name.now ≡ n
         → IsLone (F.token folder.old) (since (F.history folder.old) (F.history folder.new)) → IsSound (root_of memory.now.location) L.answer (now (F.history folder.old)) → (Rose (F.faults folder.old) (F.faults folder.new) → ⊥)
         → ComputedAt result (LeavesAsked (asked memory.now name.now c n args.now) L.answer (now (F.history folder.old)) (now (F.history folder.new)) (H.told host.old) (H.moments host.old) (L.calls lib.old) (L.calls lib.new)) }
+    ensures idle { IsRefusal result → folder.new ≡ folder.old }
     ensures told { F.told folder.old → F.told folder.new }
     ensures token { F.token folder.new ≡ F.token folder.old }
     ensures opens { F.opens folder.new ≡ F.opens folder.old }
@@ -94,6 +95,7 @@ fn called<L: Library, F: Folder, H: Host>(
     ensures warns { CallWarns L.code L.line memory.now (L.loaded lib.old) name.now args.now (F.told folder.old) (F.faults folder.old) (F.faults folder.new) (F.history folder.old) (F.history folder.new) warnings.old.items warnings.new.items }
     ensures alone { F.told folder.old → IsLone (F.token folder.old) (since (F.history folder.old) (F.history folder.new)) → IsSound (root_of memory.now.location) L.answer (now (F.history folder.old)) → (Rose (F.faults folder.old) (F.faults folder.new) → ⊥)
         → ComputedAt result (LeavesCalled L.code L.line L.answer memory.now (L.loaded lib.old) name.now args.now (now (F.history folder.old)) (now (F.history folder.new)) (H.told host.old) (H.moments host.old) (L.calls lib.old) (L.calls lib.new)) }
+    ensures idle { IsRefusal result → folder.new ≡ folder.old }
     ensures told { F.told folder.old → F.told folder.new }
     ensures token { F.token folder.new ≡ F.token folder.old }
     ensures opens { F.opens folder.new ≡ F.opens folder.old }
@@ -131,6 +133,7 @@ pub fn compute<L: Library, F: Folder, H: Host>(
     ensures warns { CallWarns L.code L.line memory.now bytes.now name.now args.now (F.told folder.old) (F.faults folder.old) (F.faults folder.new) (F.history folder.old) (F.history folder.new) warnings.old.items warnings.new.items }
     ensures alone { F.told folder.old → IsLone (F.token folder.old) (since (F.history folder.old) (F.history folder.new)) → IsSound (root_of memory.now.location) L.answer (now (F.history folder.old)) → (Rose (F.faults folder.old) (F.faults folder.new) → ⊥)
         → ComputedAt result (LeavesCalled L.code L.line L.answer memory.now bytes.now name.now args.now (now (F.history folder.old)) (now (F.history folder.new)) (H.told host.old) (H.moments host.old) (L.calls lib.old) (L.calls lib.new)) }
+    ensures idle { IsRefusal result → folder.new ≡ folder.old }
     ensures told { F.told folder.old → F.told folder.new }
     ensures token { F.token folder.new ≡ F.token folder.old }
     ensures opens { F.opens folder.new ≡ F.opens folder.old }

@@ -1,17 +1,20 @@
-use Rattle.std.proofs.Common.{rules, ◌≡◌, ◌⊎◌, ℕ, List, [], Some, inl, refl, sym, subst}
+use Rattle.std.proofs.Common.{rules, ◌≡◌, ◌⊎◌, ℕ, List, [], Some, inl, refl, sym, ap, subst}
 use Rattle.jl_text.specs.Paths.{PathView}
 use Rattle.jl_entry.specs.Names.{root_of}
 use Rattle.jl_store.specs.Trust.{IsTrusted}
 use Rattle.jl_cmd.specs.Output.{Output, call_output}
 use Rattle.jl_cmd.specs.Endings.{Scene, Tells, scene, tells}
-use Rattle.jl_folder.specs.State.{since}
-use Rattle.jl_claims.specs.Steps.{IsLone}
+use Rattle.jl_folder.specs.State.{History, since}
+use Rattle.jl_claims.specs.Steps.{IsLone, OwnMoves}
+use Rattle.jl_claims.specs.Claims.{Silent}
 use Rattle.jl_store.specs.declared.memory.Warning.{Warning}
+use Rattle.jl_cmd.specs.declared.ended.Ended.TheVariants.{NoMemory}
 use Rattle.jl_cmd.specs.Texts.{warning_lines}
 use Rattle.jl_cmd.specs.Calling.{Course, course}
 use Rattle.jl_store.proofs.Lawfully.{lawful_none, lawful_waits, lawful_then, trusted_later}
 use Rattle.jl_cmd.proofs.CacheLemmas.{lawful_as, goes_lawful, reads_first}
 use Rattle.jl_cmd.proofs.CallingLemmas.{call_lines, call_leaves, written_at, memory_at_end, module_at_end, folder_at_end}
+use Rattle.jl_cmd.proofs.IdleLemmas.{written_refusal, silent_waits, silent_none}
 use Rattle.jl_cmd.proofs.EndingLemmas.{finishes_command, finishes_so, computes_under}
 use Rattle.jl_cmd.proofs.call.call.Goals as goal
 
@@ -93,10 +96,10 @@ returns-in-Bytes-clause-lines g c =
     let after = λ (is : w.tells). lawful_as lib.answer c.in-Ok.memory.location c.args.location.now (folder.token c.read_file.new.folder) token mid new c.in-Ok.ensures.location c.read_file.ensures.token (c.compute-computed.ensures.lawful (c.read_file.ensures.told is)) in
     let m = c.as_slice.result.now in
     call_lines w c.args.file.now c.args.location.now c.in-Ok.memory c.in-Ok.ensures.location c.in-Ok.ensures.module_name by m c.args.name.now c.args.args.now mid
-    c.written.result.lines c.new-warnings.result.items c.compute-computed.new.warnings.items (folder.faults c.read_file.new.folder) (folder.told c.read_file.new.folder) c.new-warnings.ensures.items
+    c.written.result.lines c.written.result.ended c.new-warnings.result.items c.compute-computed.new.warnings.items (folder.faults c.read_file.new.folder) (folder.told c.read_file.new.folder) c.new-warnings.ensures.items
     (λ is. goes_lawful root lib.answer token old mid (before is)) (λ is. goes_lawful root lib.answer token mid new (after is)) c.read_file.ensures.told c.read_file.ensures.faults.later
     (λ is. reads_first root lib.answer token c.args.file.now m c.in-Bytes.bytes old mid new (sym c.as_slice.ensures) (before is) (after is) (c.in-Bytes.ensures.reads is))
-    (subst (λ (ws : List Warning). (c.written.result.lines ≡ warning_lines c.in-Ok.memory.«module» ws) ⊎ (c.written.result.lines ≡ [])) c.as_slice-in-Bytes.ensures.value c.written.ensures.lines) c.compute-computed.ensures.warns
+    (subst (λ (ws : List Warning). (c.written.result.lines ≡ warning_lines c.in-Ok.memory.«module» ws) ⊎ ((c.written.result.lines ≡ []) × (c.written.result.ended ≡ NoMemory))) c.as_slice-in-Bytes.ensures.value c.written.ensures.lines) c.compute-computed.ensures.warns
 
 pub returns-in-Bytes-clause-alone : goal.returns-in-Bytes-clause-alone
 returns-in-Bytes-clause-alone g c = λ told m is lone sound rose.
@@ -130,3 +133,24 @@ returns-in-Failed-clause-alone g c = λ told m is lone sound rose. folder_at_end
 
 pub returns-clause-alone : goal.returns-clause-alone
 returns-clause-alone g c = λ told m is lone sound rose. memory_at_end _ _ c.ended-in-NoMemory.ensures.ended
+
+pub returns-in-Bytes-clause-idle : goal.returns-in-Bytes-clause-idle
+returns-in-Bytes-clause-idle g c = λ told un.
+    let folder = g.F.Folder in
+    let old = folder.history c.args.folder.now in
+    let mid = folder.history c.read_file.new.folder in
+    let token = folder.token c.args.folder.now in
+    let refused = written_refusal c.compute-computed.result c.written.result.ended _ _ _ _ _ c.written.ensures.writes un in
+    subst (λ (h : History). OwnMoves token Silent (since old h)) (sym (ap folder.history (c.compute-computed.ensures.idle refused))) (silent_waits token old mid (c.read_file.ensures.waits told))
+
+pub returns-in_default-clause-idle : goal.returns-in_default-clause-idle
+returns-in_default-clause-idle g c = λ told un. silent_none _ (g.F.Folder.history c.args.folder.now)
+
+pub returns-in-NoFile-clause-idle : goal.returns-in-NoFile-clause-idle
+returns-in-NoFile-clause-idle g c = λ told un. silent_waits _ _ _ (c.read_file.ensures.waits told)
+
+pub returns-in-Failed-clause-idle : goal.returns-in-Failed-clause-idle
+returns-in-Failed-clause-idle g c = λ told un. silent_waits _ _ _ (c.read_file.ensures.waits told)
+
+pub returns-clause-idle : goal.returns-clause-idle
+returns-clause-idle g c = λ told un. silent_waits _ _ _ (c.read_file.ensures.waits told)

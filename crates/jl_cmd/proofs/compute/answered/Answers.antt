@@ -1,8 +1,9 @@
-use Rattle.std.proofs.Common.{◌≡◌, refl}
+use Rattle.std.proofs.Common.{refl}
 use Rattle.jl_store.specs.Next.{asked}
 use Rattle.jl_store.specs.declared.cached.Cached.TheVariants.{Hit, Computed, Error}
 use Rattle.jl_cmd.proofs.CacheLemmas.{defined_named}
 use Rattle.jl_cmd.proofs.CallingLemmas.{asked_leaves, printed_at, failed_at}
+use Rattle.jl_cmd.proofs.IdleLemmas.{printed_refuses, failed_refuses}
 use Rattle.jl_cmd.proofs.compute.answered.Goals as goal
 
 pub call_cached-requires-clause-function_name : goal.call_cached-requires-clause-function_name
@@ -22,3 +23,12 @@ pub returns-in-Error-clause-alone : goal.returns-in-Error-clause-alone
 returns-in-Error-clause-alone g c = λ told code n is line lone sound rose.
     failed_at c.failed.result _ c.failed.ensures.failed
     (asked_leaves (asked c.args.memory.now c.args.name.now code n c.args.args.now) g.L.Library.answer (Error c.in-Error.error) _ _ _ _ _ _ _ _ _ told refl (c.in-Error.ensures.answer code is) c.in-Error.ensures.calls (c.call_cached.ensures.lawful told) lone sound (c.in-Error.ensures.alone told code n is line lone sound.tidy rose))
+
+pub returns-in-Hit-clause-idle : goal.returns-in-Hit-clause-idle
+returns-in-Hit-clause-idle g c = λ refusal. absurd (printed_refuses c.printed.result c.printed.ensures.printed refusal)
+
+pub returns-in-Computed-clause-idle : goal.returns-in-Computed-clause-idle
+returns-in-Computed-clause-idle g c = λ refusal. absurd (printed_refuses c.printed-in-Computed.result c.printed-in-Computed.ensures.printed refusal)
+
+pub returns-in-Error-clause-idle : goal.returns-in-Error-clause-idle
+returns-in-Error-clause-idle g c = λ refusal. absurd (failed_refuses c.failed.result c.failed.ensures.failed refusal)

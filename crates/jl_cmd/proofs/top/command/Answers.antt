@@ -1,4 +1,4 @@
-use Rattle.std.proofs.Common.{◌≡◌, ℕ, List, Option, Some, None, map, string_bytes, ap, sym, subst, ◌∙◌}
+use Rattle.std.proofs.Common.{◌≡◌, ℕ, List, Option, map, string_bytes, ap, sym, subst, ◌∙◌}
 use Rattle.std.specs.Option.{option_and_then}
 use Rattle.jl_cmd.specs.Commands.{Command, command_of, given_of}
 use Rattle.jl_cmd.specs.declared.ended.Ended.{Ended}
@@ -7,6 +7,11 @@ use Rattle.jl_cmd.specs.Following.{GivenFollows}
 use Rattle.jl_cmd.specs.Calling.{Course, course, EndedAt}
 use Rattle.jl_cmd.specs.Saying.{GivenLines, GivenLeaves}
 use Rattle.jl_cmd.proofs.CallingLemmas.{given_nothing, usage_at_end, memory_at_end}
+use Rattle.jl_folder.specs.State.{since}
+use Rattle.jl_claims.specs.Steps.{OwnMoves}
+use Rattle.jl_claims.specs.Claims.{Silent}
+use Rattle.jl_cmd.specs.Promises.{IsUnmoved}
+use Rattle.jl_cmd.proofs.IdleLemmas.{silent_none}
 use Rattle.jl_cmd.specs.Clears.{GivenClears}
 use Rattle.jl_cmd.specs.declared.ended.Ended.TheVariants.{Done}
 use Rattle.jl_cmd.proofs.ClearEnds.{clears_nothing}
@@ -16,7 +21,7 @@ use Rattle.jl_cmd.proofs.ReduceEnds.{reduces_nothing}
 use Rattle.jl_tracker.specs.Plays.{stage}
 use Rattle.jl_cmd.proofs.TrackerEnds.{follows_nothing}
 use Rattle.jl_cmd.specs.Caches.{GivenTrusts, RunsLawfully}
-use Rattle.jl_cmd.specs.Endings.{RunEnds, Scene, Tells, scene, tells, status_of}
+use Rattle.jl_cmd.specs.Endings.{RunEnds, Scene, scene, tells, status_of}
 use Rattle.jl_cmd.specs.Run.{GivenCalls}
 use Rattle.jl_cmd.proofs.CacheLemmas.{has_module, runs_nothing, no_lines}
 use Rattle.jl_cmd.proofs.EndingLemmas.{idle_given}
@@ -157,3 +162,15 @@ returns-in-Err-Memory-clause-reduces g c =
     let i = source.faults c.args.input.now in
     subst (λ (e : Ended). GivenReduces given (λ n. host.told c.args.host.now → n ≡ moment_of (host.moments c.args.host.now)) (folder.told c.args.folder.now) (sink.told c.args.out.now) (folder.token c.args.folder.now) h h (scene h h f f w w k k i i) (status_of e)) (sym c.ended-in-Err-Memory.ensures.ended)
     (reduces_nothing given _ _ _ _ h f w k i)
+
+pub returns-in-Ok-clause-idle : goal.returns-in-Ok-clause-idle
+returns-in-Ok-clause-idle g c = λ told.
+    let folder = g.F.Folder in
+    subst (λ (o : Option Command). IsUnmoved o (status_of c.given.result.ended) → OwnMoves (folder.token c.args.folder.now) Silent (since (folder.history c.args.folder.now) (folder.history c.given.new.folder)))
+    (sym (ap (option_and_then command_of) c.in-Ok.ensures.given) ∙ ap (λ (n : ℕ). given_of (map string_bytes c.args.words.now) n) c.processors.ensures.count) (c.given.ensures.idle told)
+
+pub returns-in-Err-Usage-clause-idle : goal.returns-in-Err-Usage-clause-idle
+returns-in-Err-Usage-clause-idle g c = λ told stopped. silent_none _ (g.F.Folder.history c.args.folder.now)
+
+pub returns-in-Err-Memory-clause-idle : goal.returns-in-Err-Memory-clause-idle
+returns-in-Err-Memory-clause-idle g c = λ told stopped. silent_none _ (g.F.Folder.history c.args.folder.now)

@@ -1,9 +1,9 @@
-use Rattle.std.proofs.Common.{◌≡◌, ℕ, List, [], Option, Some, None, refl, sym, ap, subst, inl}
+use Rattle.std.proofs.Common.{◌≡◌, ◌≢◌, ℕ, List, [], Option, Some, None, refl, sym, ap, subst, inl}
 use Rattle.std.specs.Prelude.{⊤}
 use Rattle.jl_words.specs.declared.types.Settings.{Settings}
 use Rattle.jl_cmd.specs.Commands.{Command, call, hash, clear, reduce_size, tracker, command_of}
 use Rattle.jl_cmd.specs.declared.ended.Ended.{Ended}
-use Rattle.jl_cmd.specs.Output.{Output, call_output, hash_output, prints_nothing, prints_line, module_of, output_of, AreReading}
+use Rattle.jl_cmd.specs.Output.{Output, call_output, hash_output, prints_nothing, prints_line, output_of, AreReading}
 use Rattle.jl_cmd.specs.Caches.{TrustsCache, GivenTrusts, RunsLawfully}
 use Rattle.jl_cmd.specs.Endings.{CommandEnds, RunEnds, Scene, Tells, scene, tells, status_of}
 use Rattle.jl_cmd.proofs.CacheLemmas.{runs_call, runs_idle, runs_nothing, no_lines}
@@ -15,8 +15,10 @@ use Rattle.jl_cmd.specs.Clears.{GivenClears}
 use Rattle.jl_cmd.specs.declared.ended.Ended.TheVariants.{Done}
 use Rattle.jl_cmd.proofs.ClearEnds.{clears_so, runs_clear}
 use Rattle.jl_streams.specs.Moments.{moment_of}
-use Rattle.jl_cmd.specs.Reports.{IsReported, EndsReducing, GivenReduces}
+use Rattle.jl_cmd.specs.Reports.{GivenReduces}
 use Rattle.jl_cmd.proofs.ReduceEnds.{reduces_so, runs_reduce}
+use Rattle.jl_cmd.specs.Promises.{IsUncalled, IsUnmoved}
+use Rattle.jl_cmd.proofs.IdleLemmas.{silent_none, clear_moves, reduce_moves, tracker_moves}
 use Rattle.jl_cmd.proofs.TrackerMoves.{runs_asked}
 use Rattle.jl_cmd.proofs.TrackerEnds.{follows_ends}
 use Rattle.jl_cmd.proofs.EndingLemmas.{finishes_command, finishes_so, computes_under, command_given}
@@ -263,3 +265,40 @@ returns-in-Tracker-clause-lines g c = no_lines _ _ _ c.ended-in-Tracker.ensures.
 
 pub returns-in-Gen-clause-lines : goal.returns-in-Gen-clause-lines
 returns-in-Gen-clause-lines g c = no_lines _ _ _ c.ended-in-Gen.ensures.lines
+
+pub returns-in-Hash-clause-idle : goal.returns-in-Hash-clause-idle
+returns-in-Hash-clause-idle g c = λ told stopped. silent_none _ (g.F.Folder.history c.args.folder.now)
+
+pub returns-in-Parallel-clause-idle : goal.returns-in-Parallel-clause-idle
+returns-in-Parallel-clause-idle g c = λ told stopped. silent_none _ (g.F.Folder.history c.args.folder.now)
+
+pub returns-in-Session-clause-idle : goal.returns-in-Session-clause-idle
+returns-in-Session-clause-idle g c = λ told stopped. silent_none _ (g.F.Folder.history c.args.folder.now)
+
+pub returns-in-Call-clause-idle : goal.returns-in-Call-clause-idle
+returns-in-Call-clause-idle g c = λ told stopped.
+    c.call.ensures.idle told (subst (λ (s : Settings). IsUnmoved (command_of s) (status_of c.call.result.ended)) c.in-Call.is stopped)
+
+pub returns-in-Clear-clause-idle : goal.returns-in-Clear-clause-idle
+returns-in-Clear-clause-idle g c = λ told stopped.
+    let at = subst (λ (s : Settings). IsUnmoved (command_of s) (status_of c.ended-in-Clear.result.ended)) c.in-Clear.is stopped in
+    let of = subst (λ (e : Ended). IsUncalled (status_of e) × (status_of e ≢ 10)) c.ended-in-Clear.ensures.ended at in
+    absurd (clear_moves c.clear.result _ _ c.clear.ensures.ends of.0 of.1)
+
+pub returns-in-ReduceSize-clause-idle : goal.returns-in-ReduceSize-clause-idle
+returns-in-ReduceSize-clause-idle g c = λ told stopped.
+    let at = subst (λ (s : Settings). IsUnmoved (command_of s) (status_of c.ended-in-ReduceSize.result.ended)) c.in-ReduceSize.is stopped in
+    let of = subst (λ (e : Ended). IsUncalled (status_of e) × (status_of e ≢ 10)) c.ended-in-ReduceSize.ensures.ended at in
+    absurd (reduce_moves c.reduce.result _ _ _ (c.reduce.ensures.ends 0 0) of.0 of.1)
+
+pub returns-in-Tracker-clause-idle : goal.returns-in-Tracker-clause-idle
+returns-in-Tracker-clause-idle g c = λ told stopped.
+    let at = subst (λ (s : Settings). IsUnmoved (command_of s) (status_of c.ended-in-Tracker.result.ended)) c.in-Tracker.is stopped in
+    let of = subst (λ (e : Ended). IsUncalled (status_of e) × (status_of e ≢ 3) × (status_of e ≢ 5)) c.ended-in-Tracker.ensures.ended at in
+    absurd (tracker_moves c.follow.ensures.follows.tracked c.follow.result c.follow.ensures.follows.ends of.0 of.1 of.2)
+
+pub returns-in-Worker-clause-idle : goal.returns-in-Worker-clause-idle
+returns-in-Worker-clause-idle g c = λ told stopped. silent_none _ (g.F.Folder.history c.args.folder.now)
+
+pub returns-in-Gen-clause-idle : goal.returns-in-Gen-clause-idle
+returns-in-Gen-clause-idle g c = λ told stopped. silent_none _ (g.F.Folder.history c.args.folder.now)

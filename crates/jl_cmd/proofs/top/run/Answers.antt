@@ -1,8 +1,7 @@
-use Rattle.std.proofs.Common.{◌≡◌, ◌∙◌, ◌++◌, ◌⊎◌, ℕ, List, Option, Some, sym, ap, subst}
-use Rattle.jl_text.specs.Counts.{Rose}
-use Rattle.jl_cmd.specs.Commands.{Command}
+use Rattle.std.proofs.Common.{◌≡◌, ◌∙◌, ◌++◌, ℕ, List, Option, Some, map, string_bytes, sym, ap, subst}
+use Rattle.jl_cmd.specs.Commands.{Command, given_of}
 use Rattle.jl_cmd.specs.Endings.{last_text}
-use Rattle.jl_cmd.specs.Promises.{IsSilent, text_of_status}
+use Rattle.jl_cmd.specs.Promises.{IsUnmoved}
 use Rattle.jl_cmd.specs.Calling.{Course, course}
 use Rattle.jl_cmd.specs.Saying.{SaidBy}
 use Rattle.jl_cmd.proofs.CallingLemmas.{given_at}
@@ -47,6 +46,10 @@ returns-clause-text g c = λ n told clear.
 
 pub returns-clause-alone : goal.returns-clause-alone
 returns-clause-alone g c = given_at _ _ _ _ _ _ _ c.command-warned.result.ended c.status.result c.status.ensures c.command-warned.ensures.alone
+
+pub returns-clause-idle : goal.returns-clause-idle
+returns-clause-idle g c = λ told stopped.
+    c.command-warned.ensures.idle told (subst (λ (n : ℕ). IsUnmoved (given_of (map string_bytes c.args.words.now) (g.H.Host.processors c.args.host.now)) n) c.status.ensures stopped)
 
 pub returns-clause-complete : goal.returns-clause-complete
 returns-clause-complete g c = λ s is theirs valid clear.
