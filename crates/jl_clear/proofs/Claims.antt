@@ -1,8 +1,8 @@
 -- What a clearing promises to its caller.
-use Rattle.std.proofs.Common.{◌≡◌, ℕ, List}
+use Rattle.std.proofs.Common.{ℕ, List}
 use Rattle.jl_text.specs.Paths.{PathView}
 use Rattle.jl_text.specs.Counts.{Faults}
-use Rattle.jl_folder.specs.State.{State, History, Opens, now, since}
+use Rattle.jl_folder.specs.State.{History, Opens, now, since}
 use Rattle.jl_claims.specs.Steps.{IsLone}
 use Rattle.jl_claims.specs.Claims.{Called, Anywhere}
 use Rattle.jl_claims.proofs.Composed.{called_keeps, called_for}
@@ -10,8 +10,8 @@ use Rattle.jl_laws.specs.Whole.{Answers}
 use Rattle.jl_laws.specs.Proper.{IsProper, IsLawful}
 use Rattle.jl_laws.specs.Tidy.{IsTidy, IsSound}
 use Rattle.jl_laws.proofs.Kills.{sound_carried}
-use Rattle.jl_store.specs.Cached.{AnyMove}
-use Rattle.jl_store.proofs.DoingLemmas.{moves_called}
+use Rattle.jl_clear.specs.Doing.{AnyMove}
+use Rattle.jl_clear.proofs.DoingLemmas.{moves_called}
 use Rattle.jl_clear.specs.Taking.{IsTaking, IsTakenAway}
 use Rattle.jl_clear.specs.Clearing.{Clears}
 use Rattle.jl_clear.proofs.Thinning.{taken_away}

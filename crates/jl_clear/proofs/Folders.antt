@@ -1,5 +1,5 @@
 -- Which names stand in which folder of a tidy store.
-use Rattle.std.proofs.Common.{◌≡◌, ◌≢◌, ◌⊎◌, inl, inr, ⊎_elim, ℕ, ◌≤◌, List, [], ◌∷◌, ◌++◌, false, None, Some, true≢false, refl, sym, ap, subst, ◌∙◌, arith, length, append_assoc, length-append}
+use Rattle.std.proofs.Common.{◌≡◌, ◌≢◌, ◌⊎◌, inl, inr, ℕ, ◌≤◌, List, [], ◌∷◌, ◌++◌, false, None, Some, true≢false, refl, sym, ap, subst, ◌∙◌, arith, length, append_assoc, append-nil, length-append}
 use Rattle.std.specs.Prelude.{IsTrue}
 use Rattle.std.specs.Option.{option_map_or}
 use Rattle.std.proofs.lemmas.List.{append_cancel_left}
@@ -7,18 +7,14 @@ use Rattle.jl_text.specs.Paths.{PathView, is_fixed}
 use Rattle.jl_text.specs.Texts.{is_name}
 use Rattle.jl_folder.specs.declared.moves.Place.{Place}
 use Rattle.jl_folder.specs.declared.moves.Place.TheVariants.{Folder, File}
-use Rattle.jl_folder.specs.State.{State, place_at, is_folder, is_file, is_file_place}
+use Rattle.jl_folder.specs.State.{State, place_at, is_folder, is_file, is_folder_place, is_file_place}
 use Rattle.jl_entry.specs.declared.names.EntryFile.{EntryFile}
 use Rattle.jl_entry.specs.declared.names.EntryFile.TheVariants.{Output, Metadata, Access}
-use Rattle.jl_entry.specs.Names.{Final, code_of, entry_of, IsFormed, IsFinal, IsTemp, IsStoreName, IsStoreFolder, IsFolderParts, IsOnWay, IsBelow, below, final_parts, temp_parts, is_key, code_part, entry_part, suffix}
-use Rattle.jl_entry.proofs.NameFacts.{final_below, temp_below}
+use Rattle.jl_entry.specs.Names.{Final, code_of, entry_of, IsFinal, IsTemp, IsStoreName, IsStoreFolder, IsFolderParts, IsOnWay, IsBelow, below, final_parts, temp_parts, is_key, code_part, entry_part, suffix}
+use Rattle.jl_entry.proofs.NameFacts.{final_not_folder, temp_not_folder, final_below, temp_below}
 use Rattle.jl_claims.proofs.Causes.{place_none}
 use Rattle.jl_laws.specs.Tidy.{IsTidy}
-use Rattle.jl_laws.proofs.Before.{file_of}
-use Rattle.jl_store.specs.Doing.{IsEntryName}
-use Rattle.jl_store.specs.Checking.{IsFunctionFolder}
-use Rattle.jl_store.proofs.NamePlaces.{final_no_folder, temp_no_folder}
-use Rattle.jl_clear.specs.Taking.{IsNamed, IsCodeName, IsKeyName, IsNameOf, IsModuleFolder, IsEntryFolder}
+use Rattle.jl_clear.specs.Taking.{IsEntryName, IsFunctionFolder, IsCodeName, IsKeyName, IsNameOf, IsModuleFolder, IsEntryFolder}
 use Rattle.jl_clear.specs.Clearing.{IsPlace}
 use Rattle.jl_clear.proofs.Paths.{free_named}
 
@@ -67,8 +63,8 @@ module_path root folder part of = ap (λ (q : PathView). q ++ part ∷ []) of.2 
 function_path : (root folder : PathView) (part : List ℕ) (of : IsFunctionFolder root folder) → folder ++ part ∷ [] ≡ below root (of.0 ∷ of.1 ∷ part ∷ [])
 function_path root folder part of = ap (λ (q : PathView). q ++ part ∷ []) of.4 ∙ append_assoc root (of.0 ∷ of.1 ∷ []) (part ∷ [])
 
-entry_path : (root folder : PathView) (part : List ℕ) (of : IsEntryFolder root folder) → folder ++ part ∷ [] ≡ below root (of.0 ∷ of.1 ∷ of.2 ∷ part ∷ [])
-entry_path root folder part of = ap (λ (q : PathView). q ++ part ∷ []) of.6 ∙ append_assoc root (of.0 ∷ of.1 ∷ of.2 ∷ []) (part ∷ [])
+entry_path : (root folder rest : PathView) (of : IsEntryFolder root folder) → folder ++ rest ≡ below root (of.0 ∷ of.1 ∷ of.2 ∷ rest)
+entry_path root folder rest of = ap (λ (q : PathView). q ++ rest) of.6 ∙ append_assoc root (of.0 ∷ of.1 ∷ of.2 ∷ []) rest
 
 pub code_name : (root folder : PathView) (part : List ℕ) → IsFunctionFolder root folder → IsCodeName part → IsStoreName root (folder ++ part ∷ [])
 code_name root folder part of (inl is) =
@@ -78,9 +74,9 @@ code_name root folder part of (inr is) =
 
 pub entry_name : (root folder : PathView) (part : List ℕ) → IsEntryFolder root folder → IsEntryName part → IsStoreName root (folder ++ part ∷ [])
 entry_name root folder part of (file, inl is) =
-    inl (entry_of file of.0 of.1 of.2, record { formed = (of.3, of.4, of.5); is = entry_path root folder part of ∙ ap (λ (w : List ℕ). below root (of.0 ∷ of.1 ∷ of.2 ∷ w ∷ [])) is })
+    inl (entry_of file of.0 of.1 of.2, record { formed = (of.3, of.4, of.5); is = entry_path root folder (part ∷ []) of ∙ ap (λ (w : List ℕ). below root (of.0 ∷ of.1 ∷ of.2 ∷ w ∷ [])) is })
 entry_name root folder part of (file, inr is) =
-    inr (entry_of file of.0 of.1 of.2, is.0, record { formed = (of.3, of.4, of.5); is = entry_path root folder part of ∙ ap (λ (w : List ℕ). below root (of.0 ∷ of.1 ∷ of.2 ∷ w ∷ [])) is.1 })
+    inr (entry_of file of.0 of.1 of.2, is.0, record { formed = (of.3, of.4, of.5); is = entry_path root folder (part ∷ []) of ∙ ap (λ (w : List ℕ). below root (of.0 ∷ of.1 ∷ of.2 ∷ w ∷ [])) is.1 })
 
 -- ---- folders of the store that have a parent
 
@@ -157,6 +153,42 @@ four_temp : (a b c d : List ℕ) (x : Final) (t : List ℕ) → a ∷ b ∷ c �
 four_temp a b c d (code_of m f) t e = cc
 four_temp a b c d (entry_of w m f k) t e = (w, cc)
 
+five_not_final : (a b c d f : List ℕ) (rest : PathView) (x : Final) → a ∷ b ∷ c ∷ d ∷ f ∷ rest ≡ final_parts x → ⊥
+five_not_final a b c d f rest (code_of m g) e = cc
+five_not_final a b c d f rest (entry_of w m g k) e = cc
+
+five_not_temp : (a b c d f : List ℕ) (rest : PathView) (x : Final) (t : List ℕ) → a ∷ b ∷ c ∷ d ∷ f ∷ rest ≡ temp_parts x t → ⊥
+five_not_temp a b c d f rest (code_of m g) t e = cc
+five_not_temp a b c d f rest (entry_of w m g k) t e = cc
+
+-- a name of the store at or below an entry's folder is a file's of an entry, right in it
+pub entry_file : (root folder p : PathView) → IsEntryFolder root folder → IsBelow folder p → IsStoreName root p → (part : List ℕ) × IsEntryName part × (p ≡ folder ++ part ∷ [])
+unfolding IsBelow
+entry_file root folder p of ([], e) name = absurd (not_itself name)
+  where
+    itself : IsStoreFolder root p
+    itself = subst (IsStoreFolder root) (sym (e ∙ append-nil folder)) (entry_place root folder of).0
+
+    not_itself : IsStoreName root p → ⊥
+    not_itself (inl (x, final)) = final_not_folder root x p final itself
+    not_itself (inr (x, t, temp)) = temp_not_folder root x t p temp itself
+entry_file root folder p of (part ∷ [], e) name = (part, by_case (name_parts root (of.0 ∷ of.1 ∷ of.2 ∷ part ∷ []) p (e ∙ entry_path root folder (part ∷ []) of) name), e)
+  where
+    by_case : ((x : Final) × (of.0 ∷ of.1 ∷ of.2 ∷ part ∷ [] ≡ final_parts x)) ⊎ ((x : Final) × (token : List ℕ) × (of.0 ∷ of.1 ∷ of.2 ∷ part ∷ [] ≡ temp_parts x token)) → IsEntryName part
+    by_case (inl (x, is)) = let file = four_final of.0 of.1 of.2 part x is in (file.0, inl file.1)
+    by_case (inr (x, t, is)) = let file = four_temp of.0 of.1 of.2 part x t is in (file.0, inr (t, file.1))
+entry_file root folder p of (part ∷ y ∷ ys, e) name = absurd (by_case (name_parts root (of.0 ∷ of.1 ∷ of.2 ∷ part ∷ y ∷ ys) p (e ∙ entry_path root folder (part ∷ y ∷ ys) of) name))
+  where
+    by_case : ((x : Final) × (of.0 ∷ of.1 ∷ of.2 ∷ part ∷ y ∷ ys ≡ final_parts x)) ⊎ ((x : Final) × (token : List ℕ) × (of.0 ∷ of.1 ∷ of.2 ∷ part ∷ y ∷ ys ≡ temp_parts x token)) → ⊥
+    by_case (inl (x, is)) = five_not_final of.0 of.1 of.2 part y ys x is
+    by_case (inr (x, t, is)) = five_not_temp of.0 of.1 of.2 part y ys x t is
+
+-- and a folder of the store there is that folder
+pub entry_itself : (root folder p : PathView) → IsEntryFolder root folder → IsBelow folder p → IsStoreFolder root p → p ≡ folder
+unfolding IsBelow
+entry_itself root folder p of ([], e) store = e ∙ append-nil folder
+entry_itself root folder p of (x ∷ xs, e) store = absurd (folder_parts root of.0 (of.1 ∷ of.2 ∷ x ∷ xs) p (e ∙ entry_path root folder (x ∷ xs) of) store)
+
 module _ (root : PathView) (s : State) (tidy : IsTidy root s) (part : List ℕ) (place : Place) where
   pub root_names : place_at s (root ++ part ∷ []) ≡ Some place → IsNameOf part
   root_names is = by_case (stands_as root part [] (root ++ part ∷ []) place s tidy refl is)
@@ -183,7 +215,7 @@ module _ (root : PathView) (s : State) (tidy : IsTidy root s) (part : List ℕ) 
       by_case (inr (inr (x, t, e))) = inr (inr (t, three_temp of.0 of.1 part x t e))
 
   pub entry_names : (folder : PathView) → IsEntryFolder root folder → place_at s (folder ++ part ∷ []) ≡ Some place → IsEntryName part
-  entry_names folder of is = by_case (stands_as root of.0 (of.1 ∷ of.2 ∷ part ∷ []) (folder ++ part ∷ []) place s tidy (entry_path root folder part of) is)
+  entry_names folder of is = by_case (stands_as root of.0 (of.1 ∷ of.2 ∷ part ∷ []) (folder ++ part ∷ []) place s tidy (entry_path root folder (part ∷ []) of) is)
     where
       by_case : IsFolderParts (of.0 ∷ of.1 ∷ of.2 ∷ part ∷ []) ⊎ (((x : Final) × (of.0 ∷ of.1 ∷ of.2 ∷ part ∷ [] ≡ final_parts x)) ⊎ ((x : Final) × (token : List ℕ) × (of.0 ∷ of.1 ∷ of.2 ∷ part ∷ [] ≡ temp_parts x token))) → IsEntryName part
       by_case (inl formed) = absurd formed
@@ -191,6 +223,22 @@ module _ (root : PathView) (s : State) (tidy : IsTidy root s) (part : List ℕ) 
       by_case (inr (inr (x, t, e))) = let file = four_temp of.0 of.1 of.2 part x t e in (file.0, inr (t, file.1))
 
 -- ---- a name of the store is no folder, and a folder of the store no file
+
+not_folder : (o : Place) → (o ≡ Folder → ⊥) → is_folder_place o ≡ false
+not_folder Folder no_folder = absurd (no_folder refl)
+not_folder (File n) no_folder = refl
+
+no_folder_at : (s : State) (p : PathView) → (place_at s p ≡ Some Folder → ⊥) → is_folder s p ≡ false
+no_folder_at s p no_folder = elim (place_at s p) as (λ o. (o ≡ Some Folder → ⊥) → option_map_or is_folder_place o false ≡ false) [
+  | None ↦ λ none. refl
+  | Some o ↦ λ none. not_folder o (λ e. none (ap (λ (k : Place). Some k) e))
+] no_folder
+
+pub temp_no_folder : (root : PathView) (x : Final) (token : List ℕ) (temp : PathView) (s : State) → IsTemp root x token temp → IsTidy root s → is_folder s temp ≡ false
+temp_no_folder root x token temp s is tidy = no_folder_at s temp (λ e. temp_not_folder root x token temp is (tidy.folders temp e (temp_below root x token temp is)))
+
+pub final_no_folder : (root : PathView) (x : Final) (last : PathView) (s : State) → IsFinal root x last → IsTidy root s → is_folder s last ≡ false
+final_no_folder root x last s is tidy = no_folder_at s last (λ e. final_not_folder root x last is (tidy.folders last e (final_below root x last is)))
 
 pub name_no_folder : (root p : PathView) (s : State) → IsTidy root s → IsStoreName root p → is_folder s p ≡ false
 name_no_folder root p s tidy (inl (x, final)) = final_no_folder root x p s final tidy

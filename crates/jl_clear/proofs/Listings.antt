@@ -1,12 +1,12 @@
 -- What a listing tells of a folder, and what is left when its names were handled.
-use Rattle.std.proofs.Common.{◌≡◌, ◌≢◌, ◌⊎◌, inl, inr, ⊎_elim, ℕ, ◌≤◌, List, [], ◌∷◌, ◌++◌, false, true, Option, None, Some, true≢false, refl, sym, ap, subst, ◌∙◌, arith, length, Contains}
+use Rattle.std.proofs.Common.{◌≡◌, ◌≢◌, ◌⊎◌, inl, inr, ⊎_elim, ℕ, ◌≤◌, List, [], ◌∷◌, ◌++◌, false, true, Option, None, Some, true≢false, refl, sym, ap, subst, ◌∙◌, arith, append_assoc, length, Contains}
 use Rattle.std.specs.Option.{option_map_or}
 use Rattle.jl_text.specs.Paths.{PathView}
 use Rattle.jl_text.specs.Counts.{Rose}
 use Rattle.jl_folder.specs.declared.moves.Place.{Place}
 use Rattle.jl_folder.specs.declared.moves.Place.TheVariants.{Folder}
 use Rattle.jl_folder.specs.declared.listing.Name.{Name}
-use Rattle.jl_folder.specs.State.{State, Trace, History, Opens, AtSome, AtEach, place_at, is_folder, is_folder_place, now, since, run}
+use Rattle.jl_folder.specs.State.{State, IsState, Trace, History, Opens, AtSome, AtEach, place_at, is_folder, is_folder_place, now, since, run}
 use Rattle.jl_folder.specs.Listing.{Stands, ListsNames}
 use Rattle.jl_folder.specs.Calls.{Waits}
 use Rattle.jl_entry.specs.Names.{IsBelow}
@@ -16,12 +16,12 @@ use Rattle.jl_claims.proofs.Since.{since_went}
 use Rattle.jl_claims.proofs.Composed.{went_waits, goes_waits}
 use Rattle.jl_claims.proofs.Alone.{foreign_lone, lone_parts, waits_alone}
 use Rattle.jl_laws.specs.Tidy.{IsTidy}
-use Rattle.jl_store.specs.Checking.{IsFunctionFolder}
-use Rattle.jl_store.proofs.DoingLemmas.{later_rose, does_then, does_waits, goes_does}
-use Rattle.jl_clear.specs.Taking.{IsTaking, IsInside, IsKeyName, IsCodeName, IsNameOf}
-use Rattle.jl_clear.specs.Clearing.{IsPlace, IsEmptied, HasAll, HasCode, Handled, Thinned, Clears}
+use Rattle.jl_clear.specs.Taking.{IsFunctionFolder, IsTaking, IsInside, IsKeyName, IsCodeName, IsNameOf}
+use Rattle.jl_clear.proofs.DoingLemmas.{later_rose, does_then, does_waits, goes_does}
+use Rattle.jl_clear.specs.Clearing.{IsPlace, IsEmptied, IsOfEntries, HasAll, HasCode, Handled, Thinned, Clears}
 use Rattle.jl_clear.proofs.Paths.{by_place, child_there, inside_child, here_or_inside, nothing_inside, below_self}
 use Rattle.jl_clear.proofs.Thinning.{thinned_none}
+use Rattle.jl_clear.proofs.Parts.{clears_as}
 use Rattle.jl_clear.proofs.Folders.{place_gone, function_names, root_names, key_there, name_there}
 
 -- ---- what is left
@@ -62,6 +62,18 @@ code_left root folder names May s t tidy of has th = (
       (function_names root s tidy part place folder of before),
 )
 
+-- where each name of a function's folder is one of these, what is of its entries was handled
+pub entries_handled : (folder : PathView) (names : List Name) (s : State) → IsState s → HasAll folder names s → (p : PathView) → IsOfEntries folder p → Handled IsKeyName folder names p ⊎ (place_at s p ≡ None)
+unfolding IsBelow
+entries_handled folder names s ok has p (part, (key, (rest, e))) =
+    by_place (place_at s p) (Handled IsKeyName folder names p ⊎ (place_at s p ≡ None)) (λ none. inr none)
+    (λ place is.
+    let inside : p ≡ folder ++ part ∷ rest = e ∙ append_assoc folder (part ∷ []) rest in
+    let child = child_there s ok folder part rest place (ap (place_at s) (sym inside) ∙ is) in
+    let name : Name = record { part = part; folder = is_folder_place child.0 } in
+    let among : Contains names name = has name (record { place = child.0; place_is = child.1; kind = refl; named = key_there part key }) in
+    inl (name, among, (key, (rest, e))))
+
 -- what is no folder holds nothing
 pub absent_below : (root folder : PathView) (s : State) → IsTidy root s → IsPlace root folder → 1 ≤ length folder → is_folder s folder ≡ false → (p : PathView) → IsBelow folder p → place_at s p ≡ None
 absent_below root folder s tidy place long unmade p is =
@@ -76,7 +88,7 @@ absent_inside (r ∷ rs) s tidy unmade p i = ap (place_at s) i.2 ∙ nothing_ins
 
 -- ---- a listing where no other moved
 
-front_none : (xs ys : Trace) → [] ≡ xs ++ ys → xs ≡ []
+pub front_none : (xs ys : Trace) → [] ≡ xs ++ ys → xs ≡ []
 front_none [] ys e = refl
 front_none (x ∷ xs) ys e = cc
 
@@ -86,7 +98,7 @@ at_each s P moves none p before later split = subst (λ (b : Trace). P (run s b)
 pub at_some : (s : State) (P : State → Type 0) (moves : Trace) → moves ≡ [] → AtSome s moves P → P s
 at_some s P moves none (before, later, split, p) = subst (λ (b : Trace). P (run s b)) (front_none before later (sym none ∙ split)) p
 
-no_moves : (token : List ℕ) (old new : History) → Waits token old new → IsLone token (since old new) → since old new ≡ []
+pub no_moves : (token : List ℕ) (old new : History) → Waits token old new → IsLone token (since old new) → since old new ≡ []
 no_moves token old new waits lone =
     let is : since old new ≡ waits.others = since_went old new waits.others (went_waits token old new waits) in
     is ∙ foreign_lone token waits.others waits.foreign (subst (IsLone token) is lone)
@@ -120,15 +132,21 @@ module _ {D : Type 0} (token : D → List ℕ) (told : D → Type 0) (history : 
   }
 
   -- there is no such folder
-  pub clears_absent : (folder : PathView) (Done Failed : Type 0) (old new : D) → IsPlace root folder → 1 ≤ length folder → (told old → told new) → token new ≡ token old → opens new ≡ opens old → faults old ≤ faults new → (Failed → ⊥) → (told old → Waits (token old) (history old) (history new)) → (told old → AtSome (now (history old)) (since (history old) (history new)) (λ s. is_folder s folder ≡ false)) → Clears token told history opens faults root Anywhere (IsBelow folder) (IsBelow folder) Done Failed old new
-  clears_absent folder Done Failed old new place long tells same_token same_opens later faultless waits unmade =
-      clears_waits (IsBelow folder) (IsBelow folder) Done Failed old new tells same_token same_opens later (λ f. absurd (faultless f)) waits
-      (λ t done none tidy. absent_below root folder (now (history old)) tidy place long (at_some (now (history old)) (λ s. is_folder s folder ≡ false) (since (history old) (history new)) none (unmade t)))
+  pub clears_absent : (folder : PathView) (May Gone : PathView → Type 0) (Done Failed : Type 0) (old new : D) → ((p : PathView) → Gone p → IsBelow folder p) → IsPlace root folder → 1 ≤ length folder → (told old → told new) → token new ≡ token old → opens new ≡ opens old → faults old ≤ faults new → (Failed → ⊥) → (told old → Waits (token old) (history old) (history new)) → (told old → AtSome (now (history old)) (since (history old) (history new)) (λ s. is_folder s folder ≡ false)) → Clears token told history opens faults root Anywhere May Gone Done Failed old new
+  clears_absent folder May Gone Done Failed old new below place long tells same_token same_opens later faultless waits unmade =
+      clears_waits May Gone Done Failed old new tells same_token same_opens later (λ f. absurd (faultless f)) waits
+      (λ t done none tidy p g. absent_below root folder (now (history old)) tidy place long (at_some (now (history old)) (λ s. is_folder s folder ≡ false) (since (history old) (history new)) none (unmade t)) p (below p g))
 
   pub clears_no_root : (Done Failed : Type 0) (old new : D) → (told old → told new) → token new ≡ token old → opens new ≡ opens old → faults old ≤ faults new → (Failed → ⊥) → (told old → Waits (token old) (history old) (history new)) → (told old → AtSome (now (history old)) (since (history old) (history new)) (λ s. is_folder s root ≡ false)) → Clears token told history opens faults root Anywhere (IsInside root) (IsInside root) Done Failed old new
   clears_no_root Done Failed old new tells same_token same_opens later faultless waits unmade =
       clears_waits (IsInside root) (IsInside root) Done Failed old new tells same_token same_opens later (λ f. absurd (faultless f)) waits
       (λ t done none tidy. absent_inside root (now (history old)) tidy (at_some (now (history old)) (λ s. is_folder s root ≡ false) (since (history old) (history new)) none (unmade t)))
+
+  -- where the entries of a function were handled, nothing of them is left
+  pub clears_entry_names : (folder : PathView) (names : List Name) (Done Failed : Type 0) (old new : D) → Clears token told history opens faults root Anywhere (IsOfEntries folder) (Handled IsKeyName folder names) Done Failed old new → Clears token told history opens faults root (HasAll folder names) (IsOfEntries folder) (IsOfEntries folder) Done Failed old new
+  clears_entry_names folder names Done Failed old new a =
+      clears_as token told history opens faults root Anywhere (HasAll folder names) (IsOfEntries folder) (IsOfEntries folder) (Handled IsKeyName folder names) (IsOfEntries folder) Done Done Failed Failed old new (λ s tidy has. tt) (λ p may. may)
+      (λ s tidy has p of. entries_handled folder names s tidy.state has p of) (λ d. d) (λ f. f) a
 
   -- where the modules of the root were handled, nothing stands in it
   pub clears_root_names : (names : List Name) (Done Failed : Type 0) (old new : D) → Clears token told history opens faults root Anywhere (IsInside root) (Handled IsNameOf root names) Done Failed old new → Clears token told history opens faults root (HasAll root names) (IsInside root) (IsInside root) Done Failed old new

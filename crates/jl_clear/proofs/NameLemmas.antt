@@ -1,14 +1,16 @@
 -- What the tests of names find.
-use Rattle.std.proofs.Common.{◌≡◌, ◌⊎◌, inl, inr, ◌∙◌, Bool, true, false, ◌&&◌, nat_eq, ℕ, List, [], ◌++◌, length, sym, ap, refl, append-nil, true≢false}
-use Rattle.std.specs.Prelude.{IsTrue, ◌↔◌}
+use Rattle.std.proofs.Common.{◌≡◌, ◌⊎◌, inl, inr, ◌∙◌, Bool, true, false, ◌&&◌, nat_eq, ℕ, List, [], ◌∷◌, ◌++◌, length, sym, ap, refl, append-nil, true≢false}
 use Rattle.std.specs.List.{list_all}
 use Rattle.std.proofs.lemmas.List.{append_cancel_left}
-use Rattle.jl_entry.specs.declared.names.EntryFile.{EntryFile}
 use Rattle.jl_entry.specs.declared.names.EntryFile.TheVariants.{Output, Metadata, Access}
 use Rattle.jl_entry.specs.Names.{entry_part, suffix, is_key, is_hex_byte}
-use Rattle.jl_claims.proofs.Effects.{number_apart, number_same}
-use Rattle.jl_store.specs.Doing.{IsEntryName}
-use Rattle.jl_clear.specs.Taking.{IsNamed}
+use Rattle.jl_claims.proofs.Effects.{number_apart}
+use Rattle.jl_clear.specs.Taking.{IsEntryName, IsNamed}
+
+-- the bytes of `.tmp-` and what stands behind them
+pub suffix_is : (rest token : List ℕ) → rest ≡ (46 ∷ 116 ∷ 109 ∷ 112 ∷ 45 ∷ []) ++ token → (t : List ℕ) × (rest ≡ suffix t)
+unfolding suffix
+suffix_is rest token e = (token, e)
 
 -- what stands behind a name
 pub rest_named : (name bytes rest : List ℕ) → bytes ≡ name ++ rest → (rest ≡ []) ⊎ ((token : List ℕ) × (rest ≡ suffix token)) → IsNamed name bytes

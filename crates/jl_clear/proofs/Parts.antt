@@ -1,28 +1,25 @@
 -- Parts of a clearing, one after another.
-use Rattle.std.proofs.Common.{◌≡◌, ◌≢◌, ◌⊎◌, inl, inr, ⊎_elim, ℕ, zero, suc, ◌+◌, ◌<◌, ◌≤◌, List, [], ◌∷◌, ◌++◌, Option, None, refl, sym, ap, subst, ◌∙◌, arith, take, length, length-take, Contains}
+use Rattle.std.proofs.Common.{◌≡◌, ◌⊎◌, inl, inr, ⊎_elim, ℕ, zero, suc, ◌+◌, List, [], ◌∷◌, ◌++◌, None, sym, subst, ◌∙◌, arith, take, length-take, Contains}
 use Rattle.std.proofs.lemmas.List.Elements.{Contains-append_cases}
 use Rattle.jl_text.specs.Paths.{PathView}
-use Rattle.jl_text.specs.Counts.{Rose, Faults}
+use Rattle.jl_text.specs.Counts.{Faults}
 use Rattle.jl_folder.specs.declared.listing.Name.{Name}
-use Rattle.jl_folder.specs.declared.moves.Move.{Move}
-use Rattle.jl_folder.specs.declared.moves.Move.TheVariants.{Remove, RemoveDir}
 use Rattle.jl_folder.specs.declared.folder.Removed.{Removed}
 use Rattle.jl_folder.specs.declared.folder.Removed.TheVariants as removed
 use Rattle.jl_folder.specs.declared.folder.RemovedDir.{RemovedDir}
 use Rattle.jl_folder.specs.declared.folder.RemovedDir.TheVariants as removed_dir
-use Rattle.jl_folder.specs.State.{State, History, Opens, place_at, now, since, run}
-use Rattle.jl_folder.specs.Calls.{Call, RemovesFile, RemovesFolder, own_event}
+use Rattle.jl_folder.specs.State.{State, History, Opens, place_at, now, since}
+use Rattle.jl_folder.specs.Calls.{Call, RemovesFile, RemovesFolder}
 use Rattle.jl_entry.specs.Names.{IsStoreName, IsBelow}
 use Rattle.jl_claims.specs.Steps.{IsLone}
-use Rattle.jl_claims.specs.Claims.{GoesOn, Anywhere}
+use Rattle.jl_claims.specs.Claims.{Anywhere}
 use Rattle.jl_claims.proofs.Alone.{moves_alone, lone_parts}
 use Rattle.jl_laws.specs.Tidy.{IsTidy}
-use Rattle.jl_store.specs.Doing.{Does}
-use Rattle.jl_store.specs.Storing.{clear_of, clear_of_folder}
-use Rattle.jl_store.specs.declared.clearing.Clear.{Clear}
-use Rattle.jl_store.specs.declared.clearing.Clear.TheVariants as clear
-use Rattle.jl_store.proofs.DoingLemmas.{later_rose, rose_later, does_none, does_then, does_as, does_call, goes_does}
-use Rattle.jl_store.proofs.StoringLemmas.{remove_kinds, remove_dir_kinds, clear_fault, clear_folder_fault}
+use Rattle.jl_clear.specs.Removing.{clear_of, clear_of_folder}
+use Rattle.jl_clear.specs.declared.removing.Clear.{Clear}
+use Rattle.jl_clear.specs.declared.removing.Clear.TheVariants as clear
+use Rattle.jl_clear.proofs.DoingLemmas.{later_rose, rose_later, does_none, does_then, does_as, does_call, goes_does}
+use Rattle.jl_clear.proofs.RemovingLemmas.{remove_kinds, remove_dir_kinds, clear_fault, clear_folder_fault}
 use Rattle.jl_clear.specs.Taking.{IsTaking}
 use Rattle.jl_clear.specs.Clearing.{IsPlace, IsEmptied, ClearsPart, Handled, Thinned, Clears}
 use Rattle.jl_clear.proofs.Paths.{below_self}
@@ -58,6 +55,10 @@ module _ {D : Type 0} (token : D → List ℕ) (told : D → Type 0) (history : 
     alone = λ t d lone tidy p.
         thinned_as May May' Gone Gone' (now (history old)) (now (history new)) may (gone (now (history old)) tidy p) (a.alone t (done d) lone tidy (pre (now (history old)) tidy p));
   }
+
+  -- where more may go
+  pub clears_wider : (Pre : State → Type 0) (May May' Gone : PathView → Type 0) (Done Failed : Type 0) (old new : D) → ((p : PathView) → May p → May' p) → Clears token told history opens faults root Pre May Gone Done Failed old new → Clears token told history opens faults root Pre May' Gone Done Failed old new
+  clears_wider Pre May May' Gone Done Failed old new may a = clears_as Pre Pre May May' Gone Gone Done Done Failed Failed old new (λ s tidy pre. pre) may (λ s tidy pre p g. inl g) (λ d. d) (λ f. f) a
 
   -- one after the other
   pub clears_then : (Pre Mid : State → Type 0) (May Gone Gone' : PathView → Type 0) (Done Done' Done'' Failed Failed' Failed'' : Type 0) (old mid new : D) → ((s t : State) → IsTidy root s → IsTidy root t → Pre s → Thinned May Gone s t → Mid t) → (Done'' → Done) → (Done'' → Done') → (Failed'' → Failed ⊎ Failed') → Clears token told history opens faults root Pre May Gone Done Failed old mid → Clears token told history opens faults root Mid May Gone' Done' Failed' mid new → Clears token told history opens faults root Pre May (λ p. Gone p ⊎ Gone' p) Done'' Failed'' old new

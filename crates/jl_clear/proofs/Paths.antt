@@ -1,15 +1,15 @@
 -- What stands at and below a path.
-use Rattle.std.proofs.Common.{◌≡◌, ◌≢◌, ◌⊎◌, inl, inr, ⊎_elim, ℕ, suc, ◌+◌, ◌-◌, ◌≤◌, List, [], ◌∷◌, ◌++◌, Bool, true, false, not, ◌&&◌, Option, None, Some, is_some, IsSome, true≢false, refl, sym, ap, subst, ◌∙◌, arith, length, take, drop, append_assoc, length-append, length-drop, nat_eq}
+use Rattle.std.proofs.Common.{◌≡◌, ◌≢◌, ◌⊎◌, inl, inr, ℕ, suc, ◌+◌, ◌-◌, ◌≤◌, List, [], ◌∷◌, ◌++◌, Bool, true, false, not, ◌&&◌, Option, None, Some, is_some, IsSome, true≢false, refl, sym, ap, subst, ◌∙◌, arith, length, take, drop, append_assoc, length-append, length-drop, nat_eq}
+use Rattle.std.proofs.Math.Seq.{take-append_seam}
 use Rattle.std.proofs.lemmas.List.{append-nil, take-append-drop}
 use Rattle.std.specs.Option.{option_map_or}
 use Rattle.jl_text.specs.Paths.{PathView, is_fixed, parent}
 use Rattle.jl_folder.specs.declared.moves.Place.{Place}
-use Rattle.jl_folder.specs.declared.moves.Place.TheVariants.{Folder, File}
 use Rattle.jl_folder.specs.State.{State, IsState, place_at, is_folder, is_folder_place}
-use Rattle.jl_entry.specs.Names.{IsBelow, below}
+use Rattle.jl_entry.specs.Names.{IsBelow}
 use Rattle.jl_claims.proofs.Effects.{number_apart}
-use Rattle.jl_store.proofs.NamePlaces.{parent_in}
 use Rattle.jl_clear.specs.Taking.{IsInside}
+use Rattle.jl_clear.specs.Clearing.{IsOfEntries}
 
 -- ---- paths
 
@@ -34,11 +34,21 @@ pub inside_child : (p : PathView) (part : List ℕ) (rest q : PathView) → q �
 unfolding IsBelow
 inside_child p part rest q e = (rest, e ∙ sym (append_assoc p (part ∷ []) rest))
 
+-- what is of a function's entries stands in its folder
+pub entries_below : (function p : PathView) → IsOfEntries function p → IsBelow function p
+entries_below function p (part, (key, is)) = below_more function (part ∷ []) p is
+
 -- at the path, or inside
 pub here_or_inside : (p q : PathView) → IsBelow p q → (q ≡ p) ⊎ IsInside p q
 unfolding IsBelow
 here_or_inside p q ([], e) = inl (e ∙ append-nil p)
 here_or_inside p q (part ∷ rest, e) = inr (part, rest, e)
+
+-- the parent of what stands in a folder
+pub parent_in : (folder : PathView) (part : List ℕ) → parent (folder ++ part ∷ []) ≡ folder
+parent_in folder part =
+    let long : length (folder ++ part ∷ []) - 1 ≡ length folder = omega (arith, length-append folder (part ∷ [])) in
+    ap (λ n. take n (folder ++ part ∷ [])) long ∙ take-append_seam folder (part ∷ [])
 
 -- what stands behind one part or more has a parent
 pub free_child : (p : PathView) (part : List ℕ) → 1 ≤ length p → is_fixed (p ++ part ∷ []) ≡ false

@@ -1,32 +1,30 @@
 -- What one removal leaves, where no other moved.
-use Rattle.std.proofs.Common.{◌≡◌, ◌⊎◌, inl, inr, ⊎_elim, ℕ, ◌≤◌, List, [], ◌∷◌, ◌++◌, false, true, Option, None, Some, IsSome, true≢false, refl, sym, ap, subst, ◌∙◌}
-use Rattle.jl_text.specs.Paths.{PathView, is_fixed, parent}
+use Rattle.std.proofs.Common.{◌≡◌, ◌⊎◌, inl, inr, ⊎_elim, ℕ, List, [], ◌∷◌, ◌++◌, false, true, Option, None, Some, IsSome, true≢false, sym, ap, subst, ◌∙◌}
+use Rattle.jl_text.specs.Paths.{PathView, is_fixed}
 use Rattle.jl_folder.specs.declared.moves.Place.{Place}
-use Rattle.jl_folder.specs.declared.moves.Place.TheVariants.{Folder, File}
 use Rattle.jl_folder.specs.declared.moves.Move.{Move}
 use Rattle.jl_folder.specs.declared.moves.Move.TheVariants.{MakeDir, Create, Append, Rename, Remove, RemoveDir}
 use Rattle.jl_folder.specs.declared.folder.Removed.{Removed}
 use Rattle.jl_folder.specs.declared.folder.Removed.TheVariants as removed
 use Rattle.jl_folder.specs.declared.folder.RemovedDir.{RemovedDir}
 use Rattle.jl_folder.specs.declared.folder.RemovedDir.TheVariants as removed_dir
-use Rattle.jl_folder.specs.State.{State, Trace, History, IsTrace, place_at, is_folder, is_file, now, since, run, after}
-use Rattle.jl_folder.specs.Calls.{Call, RemovesFile, RemovesFolder, IsKept, own_event}
+use Rattle.jl_folder.specs.State.{State, Trace, History, place_at, now, since, run, after}
+use Rattle.jl_folder.specs.Calls.{RemovesFile, RemovesFolder, IsKept, own_event}
 use Rattle.jl_entry.specs.Names.{IsStoreName, IsStoreFolder, IsBelow}
 use Rattle.jl_claims.specs.Steps.{StepFact, AllSteps, OwnMoves, IsLone}
 use Rattle.jl_claims.proofs.Since.{now_went}
 use Rattle.jl_laws.specs.Whole.{Answers}
 use Rattle.jl_laws.specs.Proper.{IsProper, IsLawful, RenamesTrue}
 use Rattle.jl_laws.specs.Tidy.{IsTidy}
-use Rattle.jl_laws.proofs.Before.{file_not_folder, file_of}
 use Rattle.jl_laws.proofs.Kills.{tidy_at_end}
 use Rattle.jl_laws.proofs.LawfulCalls.{always_remove, always_remove_dir}
-use Rattle.jl_store.specs.Doing.{Moves}
-use Rattle.jl_store.specs.Storing.{clear_of, clear_of_folder}
-use Rattle.jl_store.specs.declared.clearing.Clear.TheVariants as clear
-use Rattle.jl_store.proofs.DoingLemmas.{moves_went}
+use Rattle.jl_clear.specs.Doing.{Moves}
+use Rattle.jl_clear.specs.Removing.{clear_of, clear_of_folder}
+use Rattle.jl_clear.specs.declared.removing.Clear.TheVariants as clear
+use Rattle.jl_clear.proofs.DoingLemmas.{moves_went}
 use Rattle.jl_clear.specs.Taking.{IsTaking, IsInside}
 use Rattle.jl_clear.specs.Clearing.{IsPlace, IsEmptied, Thinned}
-use Rattle.jl_clear.proofs.Paths.{below_self, here_or_inside, nothing_inside, last_of, by_place}
+use Rattle.jl_clear.proofs.Paths.{below_self, here_or_inside, nothing_inside, last_of}
 use Rattle.jl_clear.proofs.Thinning.{thinned_none, thinned_remove, thinned_remove_dir, thinned_as}
 use Rattle.jl_clear.proofs.Folders.{name_no_folder, name_path_long, place_gone, file_gone}
 
@@ -69,7 +67,8 @@ taking_as root Of Of' f (RemoveDir p) is = (is.0, f p is.1)
 
 -- ---- alone, the state stays tidy
 
-lone_all : (P : StepFact) (token : List ℕ) (Kinds : Move → Type 0) → ((s : State) (m : Move) → Kinds m → P token s m) → (s : State) (xs : Trace) → OwnMoves token Kinds xs → IsLone token xs → AllSteps P s xs
+-- what own moves of these kinds have, all have
+pub lone_all : (P : StepFact) (token : List ℕ) (Kinds : Move → Type 0) → ((s : State) (m : Move) → Kinds m → P token s m) → (s : State) (xs : Trace) → OwnMoves token Kinds xs → IsLone token xs → AllSteps P s xs
 unfolding OwnMoves IsLone AllSteps
 lone_all P token Kinds f s [] own lone = tt
 lone_all P token Kinds f s (e ∷ es) own lone =

@@ -1,10 +1,10 @@
 -- States from which paths were taken away.
-use Rattle.std.proofs.Common.{◌≡◌, ◌⊎◌, inl, inr, ⊎_elim, ℕ, List, None, Some, Option, refl, sym, ap, ◌∙◌, option_map}
+use Rattle.std.proofs.Common.{◌≡◌, ◌⊎◌, inl, inr, ⊎_elim, ℕ, List, None, Some, Option, refl, ap, ◌∙◌, option_map}
 use Rattle.jl_text.specs.Paths.{PathView}
 use Rattle.jl_folder.specs.declared.moves.Place.{Place}
 use Rattle.jl_folder.specs.declared.moves.Place.TheVariants.{Folder, File}
 use Rattle.jl_folder.specs.declared.moves.Move.TheVariants.{Remove, RemoveDir}
-use Rattle.jl_folder.specs.State.{State, place_at, node_at, bytes_at, bytes_of, after}
+use Rattle.jl_folder.specs.State.{State, place_at, node_at, bytes_of, after}
 use Rattle.jl_folder.proofs.Looks.{node_at-after}
 use Rattle.jl_claims.proofs.Effects.{removed_here, unmade_here}
 use Rattle.jl_claims.proofs.Touched.{step_or_touch}

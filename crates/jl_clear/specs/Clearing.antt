@@ -1,5 +1,5 @@
 -- What each part of a clearing does, and what it leaves where no other moved.
-use Rattle.std.specs.Prelude.{◌≡◌, ◌≤◌, ◌⊎◌, ℕ, false, List, [], ◌∷◌, ◌++◌, None, Some, Contains}
+use Rattle.std.specs.Prelude.{◌≡◌, ◌⊎◌, ℕ, false, List, [], ◌∷◌, ◌++◌, None, Some, Contains}
 use Rattle.jl_text.specs.Paths.{PathView, is_fixed}
 use Rattle.jl_text.specs.Counts.{Rose}
 use Rattle.jl_folder.specs.declared.listing.Name.{Name}
@@ -9,8 +9,8 @@ use Rattle.jl_folder.specs.Listing.{Stands}
 use Rattle.jl_entry.specs.Names.{IsStoreFolder, IsBelow}
 use Rattle.jl_claims.specs.Steps.{IsLone}
 use Rattle.jl_laws.specs.Tidy.{IsTidy}
-use Rattle.jl_store.specs.Doing.{Does}
-use Rattle.jl_clear.specs.Taking.{IsTaking, IsInside, IsCodeName}
+use Rattle.jl_clear.specs.Doing.{Does}
+use Rattle.jl_clear.specs.Taking.{IsTaking, IsInside, IsKeyName, IsCodeName}
 
 -- ---- paths
 
@@ -21,6 +21,10 @@ IsPlace root folder = IsStoreFolder root folder × (is_fixed folder ≡ false)
 -- what stands in a folder at this part, if it is of that form
 abbrev pub ClearsPart : (Form : List ℕ → Type 0) → PathView → List ℕ → PathView → Type 0
 ClearsPart Form folder part p = Form part × IsBelow (folder ++ part ∷ []) p
+
+-- what stands in a function's folder at the name of an entry's folder
+abbrev pub IsOfEntries : PathView → PathView → Type 0
+IsOfEntries function p = (part : List ℕ) × ClearsPart IsKeyName function part p
 
 -- what stands in a folder at one of these names, of those of that form
 abbrev pub Handled : (Form : List ℕ → Type 0) → PathView → List Name → PathView → Type 0

@@ -1,2 +1,4 @@
 pub mod Clearing
+pub mod Doing
+pub mod Removing
 pub mod Taking

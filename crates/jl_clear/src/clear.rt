@@ -10,15 +10,15 @@ ghost use Rattle.jl_claims.specs.Claims.{Called, Anywhere};
 ghost use Rattle.jl_laws.specs.Whole.{Answers};
 ghost use Rattle.jl_laws.specs.Proper.{IsProper, IsLawful};
 ghost use Rattle.jl_laws.specs.Tidy.{IsTidy, IsSound};
-ghost use Rattle.jl_store.specs.Cached.{AnyMove};
+ghost use Rattle.jl_clear.specs.Doing.{AnyMove};
 ghost use Rattle.jl_clear.specs.Taking.{IsTaking, IsInside, IsTakenAway};
 
 use crate::entries::clear_entry;
 use crate::functions::clear_function_folder;
 use crate::modules::{clear_module_folder, clear_root};
+use crate::removing::Clear;
 use jl_entry::{entry_folder, function_folder, module_folder, root};
 use jl_folder::{Folder, Path};
-use jl_store::Clear;
 use jl_value::Key;
 use std::alloc::Global;
 

@@ -3,14 +3,12 @@ ghost use Rattle.std.specs.Prelude.{◌≡◌, ◌++◌, ◌∷◌, [], All, IsT
 ghost use Rattle.jl_text.specs.Paths.{PathView, is_part};
 ghost use Rattle.jl_entry.specs.Names.{IsBelow};
 ghost use Rattle.jl_claims.specs.Claims.{Anywhere};
-ghost use Rattle.jl_store.specs.Doing.{IsEntryName};
-ghost use Rattle.jl_clear.specs.Taking.{IsEntryFolder};
+ghost use Rattle.jl_clear.specs.Taking.{IsEntryName, IsEntryFolder};
 ghost use Rattle.jl_clear.specs.Clearing.{Clears, HasAll, Handled, ClearsPart};
 
 use crate::names::is_entry_name;
-use crate::removing::{clear_file, clear_folder};
+use crate::removing::{Clear, clear_file, clear_folder};
 use jl_folder::{Folder, Listed, Name, NameList, Path};
-use jl_store::Clear;
 use std::alloc::Global;
 
 // Takes away a name of an entry's folder, if it is a file's of an entry.

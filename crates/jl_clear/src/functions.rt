@@ -3,22 +3,20 @@ ghost use Rattle.std.specs.Prelude.{◌≡◌, ◌⊎◌, ◌++◌, ◌∷◌, [
 ghost use Rattle.jl_text.specs.Paths.{PathView, is_part};
 ghost use Rattle.jl_entry.specs.Names.{IsBelow};
 ghost use Rattle.jl_claims.specs.Claims.{Anywhere};
-ghost use Rattle.jl_store.specs.Checking.{IsFunctionFolder};
-ghost use Rattle.jl_clear.specs.Taking.{IsCodeName, IsKeyName};
-ghost use Rattle.jl_clear.specs.Clearing.{Clears, HasAll, HasCode, Handled, ClearsPart};
+ghost use Rattle.jl_clear.specs.Taking.{IsFunctionFolder, IsCodeName, IsKeyName};
+ghost use Rattle.jl_clear.specs.Clearing.{Clears, HasAll, HasCode, Handled, IsOfEntries, ClearsPart};
 
 use crate::entries::clear_entry;
 use crate::names::{is_code_name, is_key_name};
-use crate::removing::{clear_file, clear_folder};
+use crate::removing::{Clear, clear_file, clear_folder};
 use jl_folder::{Folder, Listed, Name, NameList, Path};
-use jl_store::Clear;
 use std::alloc::Global;
 
 // Takes away an entry of a function's folder, if this is the name of one.
 fn clear_key<F: Folder>(alloc: Global, folder: &mut F, function: &Path, part: &str) -> Clear
     requires { IsTrue (is_part part.now) }
     ensures { (root : PathView) → IsFunctionFolder root function.now →
-        Clears F.token F.told F.history F.opens F.faults root Anywhere (IsBelow function.now) (ClearsPart IsKeyName function.now part.now) (result ≡ Clear.Cleared) (result ≡ Clear.Fault) folder.old folder.new }
+        Clears F.token F.told F.history F.opens F.faults root Anywhere (IsOfEntries function.now) (ClearsPart IsKeyName function.now part.now) (result ≡ Clear.Cleared) (result ≡ Clear.Fault) folder.old folder.new }
 {
     if !is_key_name(part) {
         return Clear::Cleared;
@@ -32,7 +30,7 @@ fn clear_key<F: Folder>(alloc: Global, folder: &mut F, function: &Path, part: &s
 fn clear_keys<F: Folder>(alloc: Global, folder: &mut F, function: &Path, names: &[Name]) -> Clear
     requires { All (λ n. IsTrue (is_part n.part)) names.now }
     ensures { (root : PathView) → IsFunctionFolder root function.now →
-        Clears F.token F.told F.history F.opens F.faults root Anywhere (IsBelow function.now) (Handled IsKeyName function.now names.now) (result ≡ Clear.Cleared) (result ≡ Clear.Fault) folder.old folder.new }
+        Clears F.token F.told F.history F.opens F.faults root Anywhere (IsOfEntries function.now) (Handled IsKeyName function.now names.now) (result ≡ Clear.Cleared) (result ≡ Clear.Fault) folder.old folder.new }
 {
     for name in names {
         match clear_key(alloc, folder, function, name.part.as_str()) {
@@ -41,6 +39,19 @@ fn clear_keys<F: Folder>(alloc: Global, folder: &mut F, function: &Path, names: 
         }
     }
     Clear::Cleared
+}
+
+/// Takes away each entry of a function's folder, and nothing else. A folder that is absent is cleared.
+pub fn clear_entries<F: Folder>(alloc: Global, folder: &mut F, function: &Path) -> Clear
+    ensures { (root : PathView) → IsFunctionFolder root function.now →
+        Clears F.token F.told F.history F.opens F.faults root Anywhere (IsOfEntries function.now) (IsOfEntries function.now) (result ≡ Clear.Cleared) (result ≡ Clear.Fault) folder.old folder.new }
+{
+    match folder.list(function) {
+        Listed::Names(names) => clear_keys(alloc, folder, function, names.as_slice()),
+        Listed::NoDir => Clear::Cleared,
+        Listed::Failed => Clear::Fault,
+        Listed::NoMemory => Clear::NoMemory,
+    }
 }
 
 // Takes away the file of a function's code, if this is a name of it.

@@ -10,8 +10,9 @@ mod removing;
 
 pub use clear::{clear_all, clear_function, clear_item, clear_module};
 pub use entries::clear_entry;
-pub use jl_store::Clear;
+pub use functions::clear_entries;
 pub use names::is_key_name;
+pub use removing::Clear;
 
 #[cfg(test)]
 mod tests;

@@ -7,9 +7,8 @@ ghost use Rattle.jl_clear.specs.Taking.{IsModuleFolder, IsNameOf, IsInside};
 ghost use Rattle.jl_clear.specs.Clearing.{Clears, HasAll, Handled, ClearsPart};
 
 use crate::functions::clear_function_folder;
-use crate::removing::clear_folder;
+use crate::removing::{Clear, clear_folder};
 use jl_folder::{Folder, Listed, Name, NameList, Path};
-use jl_store::Clear;
 use jl_text::is_name;
 use std::alloc::Global;
 

@@ -2,8 +2,7 @@
 ghost use Rattle.std.specs.Prelude.{◌≡◌, ◌↔◌, ◌⊎◌, ℕ, List, [], IsTrue};
 ghost use Rattle.std.specs.List.{list_all};
 ghost use Rattle.jl_entry.specs.Names.{is_hex_byte, is_key, suffix};
-ghost use Rattle.jl_store.specs.Doing.{IsEntryName};
-ghost use Rattle.jl_clear.specs.Taking.{IsNamed, IsCodeName};
+ghost use Rattle.jl_clear.specs.Taking.{IsEntryName, IsNamed, IsCodeName};
 
 // Whether the bytes are `.tmp-` and a token.
 fn is_suffix(rest: &[u8]) -> bool

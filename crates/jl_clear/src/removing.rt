@@ -3,11 +3,18 @@ ghost use Rattle.std.specs.Prelude.{◌≡◌};
 ghost use Rattle.jl_text.specs.Paths.{PathView};
 ghost use Rattle.jl_entry.specs.Names.{IsBelow, IsStoreName};
 ghost use Rattle.jl_claims.specs.Claims.{Anywhere};
-ghost use Rattle.jl_store.specs.Storing.{clear_of, clear_of_folder};
+ghost use Rattle.jl_clear.specs.Removing.{clear_of, clear_of_folder};
 ghost use Rattle.jl_clear.specs.Clearing.{Clears, IsPlace, IsEmptied};
 
 use jl_folder::{Folder, Path, Removed, RemovedDir};
-use jl_store::Clear;
+
+/// Whether what was to be cleared is gone.
+#[derive(Clone, Copy, Debug, PartialEq, Eq, Drop)]
+pub enum Clear {
+    Cleared,
+    Fault,
+    NoMemory,
+}
 
 // A file that is gone is cleared.
 fn as_cleared(removed: Removed) -> Clear

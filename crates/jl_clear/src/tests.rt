@@ -117,6 +117,20 @@ fn a_function_goes_with_its_entries(rt: HostRuntime) -> Result<(), Fail> {
 }
 
 #[test]
+fn the_entries_go_and_the_code_stays(rt: HostRuntime) -> Result<(), Fail> {
+    let alloc = rt.alloc();
+    let mut folder = store(alloc, Vec::new(alloc))?;
+    fill_more(alloc, &mut folder)?;
+    let function = Path::read(alloc, "c/joblib/m/f")?;
+    assert!(rt; clear_entries(alloc, &mut folder, &function) == Clear::Cleared);
+    assert_eq!(rt; count(alloc, &mut folder, ENTRY.as_slice())?, 0);
+    assert_eq!(rt; count(alloc, &mut folder, FUNCTION.as_slice())?, 2);
+    assert!(rt; clear_entries(alloc, &mut folder, &function) == Clear::Cleared);
+    assert_eq!(rt; folder.moves(), 16);
+    Ok(())
+}
+
+#[test]
 fn a_module_goes_and_another_stays(rt: HostRuntime) -> Result<(), Fail> {
     let alloc = rt.alloc();
     let mut folder = store(alloc, Vec::new(alloc))?;

@@ -24,7 +24,7 @@ use Rattle.jl_entry.specs.Names.{root_of}
 use Rattle.jl_laws.specs.Whole.{Answers}
 use Rattle.jl_laws.specs.Tidy.{IsSound}
 use Rattle.jl_laws.specs.Proper.{IsLawful, LawfulThroughout}
-use Rattle.jl_store.specs.Cached.{AnyMove}
+use Rattle.jl_clear.specs.Doing.{AnyMove}
 use Rattle.jl_store.proofs.Lawfully.{Lawfully, lawful_none}
 use Rattle.jl_words.specs.ModuleNames.{stem_of, name_of, module_name_of}
 use Rattle.jl_words.specs.Settings.{settings_of}

@@ -8,7 +8,7 @@ ghost use Rattle.jl_claims.specs.Claims.{Called as CallsFolder, Silent};
 ghost use Rattle.jl_text.specs.Counts.{Rose};
 ghost use Rattle.jl_folder.specs.State.{now, since};
 ghost use Rattle.jl_claims.specs.Steps.{IsLone, OwnMoves};
-ghost use Rattle.jl_store.specs.Cached.{AnyMove};
+ghost use Rattle.jl_clear.specs.Doing.{AnyMove};
 ghost use Rattle.jl_store.specs.declared.memory.Warning.{Warning};
 ghost use Rattle.jl_store.specs.Trust.{IsTrusted};
 ghost use Rattle.jl_words.specs.ModuleNames.{module_name_of};

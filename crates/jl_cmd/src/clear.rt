@@ -8,7 +8,7 @@ ghost use Rattle.jl_claims.specs.Claims.{Called as CallsFolder, Anywhere};
 ghost use Rattle.jl_laws.specs.Whole.{Answers};
 ghost use Rattle.jl_laws.specs.Proper.{IsProper, IsLawful};
 ghost use Rattle.jl_laws.specs.Tidy.{IsTidy, IsSound};
-ghost use Rattle.jl_store.specs.Cached.{AnyMove};
+ghost use Rattle.jl_clear.specs.Doing.{AnyMove};
 ghost use Rattle.jl_clear.specs.Taking.{IsTaking, IsTakenAway};
 ghost use Rattle.jl_words.specs.Targets.{IsTarget};
 ghost use Rattle.jl_cmd.specs.Clears.{IsCleared, EndsClearing};

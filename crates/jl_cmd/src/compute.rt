@@ -14,7 +14,7 @@ ghost use Rattle.jl_folder.specs.State.{now, since};
 ghost use Rattle.jl_claims.specs.Steps.{IsLone};
 ghost use Rattle.jl_store.specs.Next.{asked};
 ghost use Rattle.jl_store.specs.Warned.{Warns};
-ghost use Rattle.jl_store.specs.Cached.{AnyMove};
+ghost use Rattle.jl_clear.specs.Doing.{AnyMove};
 ghost use Rattle.jl_store.specs.Trust.{IsTrusted};
 ghost use Rattle.jl_cmd.specs.Output.{call_output, called as called_of, answers};
 ghost use Rattle.jl_cmd.specs.Calling.{CallWarns, LeavesAsked, LeavesCalled, ComputedAt};

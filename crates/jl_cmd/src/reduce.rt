@@ -6,7 +6,7 @@ ghost use Rattle.jl_claims.specs.Claims.{Called as CallsFolder, Anywhere};
 ghost use Rattle.jl_laws.specs.Whole.{Answers};
 ghost use Rattle.jl_laws.specs.Proper.{IsProper, IsLawful};
 ghost use Rattle.jl_laws.specs.Tidy.{IsSound};
-ghost use Rattle.jl_store.specs.Cached.{AnyMove};
+ghost use Rattle.jl_clear.specs.Doing.{AnyMove};
 ghost use Rattle.jl_clear.specs.Taking.{IsTaking};
 ghost use Rattle.jl_evict.specs.Reducing.{IsOfEntry};
 ghost use Rattle.jl_cmd.specs.declared.computed.Computed.TheVariants as computed;

@@ -4,7 +4,7 @@ use Rattle.std.proofs.Math.Seq.{drop-cons}
 use Rattle.std.proofs.lemmas.List.{take_all}
 use Rattle.jl_limits.specs.declared.limits.Limits.{Limits}
 use Rattle.jl_evict.specs.declared.item.Item.{Item}
-use Rattle.jl_evict.specs.Choosing.{bytes_of, excess, IsSpared, MayStop, IsShortest}
+use Rattle.jl_evict.specs.Choosing.{bytes_of, excess, IsSpared, MayStop}
 
 pub excess_within : (n : ℕ) (limit : Option ℕ) → excess n limit ≤ n
 excess_within n None = omega arith

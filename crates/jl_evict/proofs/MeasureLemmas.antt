@@ -12,11 +12,11 @@ use Rattle.jl_folder.specs.declared.moves.Place.{Place}
 use Rattle.jl_folder.specs.declared.moves.Place.TheVariants.{Folder, File}
 use Rattle.jl_folder.specs.declared.folder.SizeOf.{SizeOf}
 use Rattle.jl_folder.specs.declared.folder.SizeOf.TheVariants as size_of
-use Rattle.jl_folder.specs.State.{State, Trace, AtSome, place_at, node_at, is_file, is_file_place, bytes_at, bytes_of, run}
+use Rattle.jl_folder.specs.State.{State, Trace, place_at, node_at, is_file, is_file_place, bytes_at, bytes_of, run}
 use Rattle.jl_folder.specs.Calls.{SizesFile}
 use Rattle.jl_folder.specs.Reading.{ReadsNamed, IsUnwritten}
-use Rattle.jl_entry.specs.Moments.{IsAccess, access_text}
-use Rattle.jl_evict.specs.Items.{held, size_at, HasAccess}
+use Rattle.jl_entry.specs.Moments.{IsAccess}
+use Rattle.jl_evict.specs.Items.{held, HasAccess}
 use Rattle.jl_evict.specs.declared.measure.Measure.{Measure}
 use Rattle.jl_evict.specs.declared.measure.Measure.TheVariants as measure
 use Rattle.jl_evict.specs.Walks.{IsMeasured, IsMeasureFault, measure_of, Sized, IsAccessOf}

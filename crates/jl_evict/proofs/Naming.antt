@@ -10,7 +10,6 @@ use Rattle.jl_text.specs.Texts.{is_name, is_name_byte}
 use Rattle.jl_text.proofs.Names.{is_part-from_bytes, is_part-is_name}
 use Rattle.jl_text.proofs.Spelled.{path_of-text_of, is_bad-text_of, text_of-injective, text_of-spelled}
 use Rattle.jl_entry.specs.Names.{is_key, is_hex_byte}
-use Rattle.jl_clear.proofs.Folders.{name_long}
 use Rattle.jl_evict.specs.Items.{IsEntryParts, IsItemPath}
 
 -- ---- keys

@@ -6,7 +6,6 @@ use Rattle.std.specs.List.Sorted.{IsPermutation}
 use Rattle.std.proofs.lemmas.List.Elements.{Contains-append_cases, Contains-append_left}
 use Rattle.jl_text.specs.Paths.{PathView, path_of}
 use Rattle.jl_text.specs.Counts.{Faults, Rose}
-use Rattle.jl_folder.specs.declared.moves.Move.{Move}
 use Rattle.jl_folder.specs.State.{State, Trace, History, Opens, IsState, IsHistory, now, since}
 use Rattle.jl_folder.specs.Calls.{Waits}
 use Rattle.jl_folder.proofs.StateKept.{IsState-run}
@@ -17,8 +16,8 @@ use Rattle.jl_claims.proofs.Composed.{goes_waits}
 use Rattle.jl_claims.proofs.Alone.{lone_parts, waits_alone}
 use Rattle.jl_limits.specs.declared.limits.Limits.{Limits}
 use Rattle.jl_laws.specs.Tidy.{IsTidy}
-use Rattle.jl_store.specs.Doing.{Does}
-use Rattle.jl_store.proofs.DoingLemmas.{later_rose, does_then, does_as, does_waits, goes_does}
+use Rattle.jl_clear.specs.Doing.{Does}
+use Rattle.jl_clear.proofs.DoingLemmas.{later_rose, does_then, does_as, does_waits, goes_does}
 use Rattle.jl_clear.specs.Taking.{IsEntryFolder, IsTaking, IsTakenAway}
 use Rattle.jl_clear.specs.Clearing.{Clears}
 use Rattle.jl_clear.proofs.Parts.{clears_none, clears_as, clears_then}
@@ -26,7 +25,7 @@ use Rattle.jl_clear.proofs.Listings.{clears_waits}
 use Rattle.jl_clear.proofs.Removals.{taking_as}
 use Rattle.jl_clear.proofs.Thinning.{taken_away}
 use Rattle.jl_evict.specs.declared.item.Item.{Item}
-use Rattle.jl_evict.specs.Items.{IsEntryParts, IsItemPath, AreFound, AreItems}
+use Rattle.jl_evict.specs.Items.{IsItemPath, AreItems}
 use Rattle.jl_evict.specs.Walks.{Adds}
 use Rattle.jl_evict.specs.declared.reducing.Reduced.{Reduced}
 use Rattle.jl_evict.specs.declared.reducing.Reduced.TheVariants as reduced

@@ -8,8 +8,8 @@ use Rattle.jl_claims.specs.Claims.{Silent}
 use Rattle.jl_claims.specs.Steps.{OwnMoves, IsLone}
 use Rattle.jl_claims.proofs.Since.{now_went}
 use Rattle.jl_claims.proofs.Alone.{moves_alone, lone_parts}
-use Rattle.jl_store.specs.Doing.{Moves, Does}
-use Rattle.jl_store.proofs.DoingLemmas.{rose_later, later_rose, moves_went, does_none, does_then, does_call, does_waits, goes_does}
+use Rattle.jl_clear.specs.Doing.{Moves}
+use Rattle.jl_clear.proofs.DoingLemmas.{rose_later, later_rose, moves_went, does_none, does_then, does_call, does_waits, goes_does}
 use Rattle.jl_evict.specs.Walks.{Tells}
 
 -- ---- alone, nothing moves

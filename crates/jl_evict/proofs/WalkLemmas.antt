@@ -7,11 +7,9 @@ use Rattle.std.specs.Str.{bytes_eq}
 use Rattle.std.proofs.lemmas.List.{append_cancel_left, get_or-take}
 use Rattle.std.proofs.lemmas.List.Elements.{Contains-append_cases, Contains-append_left, Contains-append_right}
 use Rattle.std.proofs.lemmas.Slice.Eq.{bytes_eq-Decides}
-use Rattle.jl_text.specs.Paths.{PathView, text_of}
+use Rattle.jl_text.specs.Paths.{PathView}
 use Rattle.jl_text.specs.Texts.{is_name}
-use Rattle.jl_text.specs.Counts.{Rose}
 use Rattle.jl_folder.specs.declared.moves.Place.{Place as Thing}
-use Rattle.jl_folder.specs.declared.moves.Place.TheVariants.{Folder}
 use Rattle.jl_folder.specs.declared.listing.Name.{Name}
 use Rattle.jl_folder.specs.State.{State, Trace, History, Opens, IsState, AtSome, place_at, is_folder, is_folder_place, now, since}
 use Rattle.jl_folder.specs.Listing.{Stands, ListsNames}
@@ -20,15 +18,13 @@ use Rattle.jl_entry.specs.declared.names.EntryFile.TheVariants.{Access}
 use Rattle.jl_entry.specs.Names.{IsBelow, below, is_key, entry_part}
 use Rattle.jl_claims.specs.Claims.{Anywhere}
 use Rattle.jl_clear.specs.Taking.{IsNameOf, IsKeyName}
-use Rattle.jl_clear.specs.Clearing.{HasAll}
 use Rattle.jl_clear.proofs.Paths.{below_self, below_more, by_place, child_there, nothing_inside, no_folder}
-use Rattle.jl_clear.proofs.Folders.{name_there, key_there}
 use Rattle.jl_clear.proofs.Listings.{at_each, at_some}
 use Rattle.jl_evict.specs.declared.item.Item.{Item}
 use Rattle.jl_evict.specs.declared.walk.Walk.{Walk}
 use Rattle.jl_evict.specs.declared.walk.Walk.TheVariants as walk
 use Rattle.jl_evict.specs.declared.walk.Place.{Place}
-use Rattle.jl_evict.specs.Items.{IsEntryParts, IsItemPath, IsItem, HasBytes, HasAccess, AreFound}
+use Rattle.jl_evict.specs.Items.{IsEntryParts, IsItemPath, HasBytes, HasAccess, AreFound}
 use Rattle.jl_evict.specs.Walks.{Tells, Adds, Pushes, IsAt, IsSizedEntry, Listing, Under, AreDistinct, IsRootParts, IsModuleParts, IsFunctionParts}
 use Rattle.jl_evict.proofs.FoundLemmas.{none_among, only_among, first_among, found_none, found_then, found_as, found_one}
 use Rattle.jl_evict.proofs.TellLemmas.{tells_none, tells_as, tells_undone, tells_stop, tells_then, tells_waits}

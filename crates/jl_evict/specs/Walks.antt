@@ -14,7 +14,7 @@ use Rattle.jl_entry.specs.Moments.{IsAccess}
 use Rattle.jl_entry.specs.Names.{IsBelow, below}
 use Rattle.jl_claims.specs.Claims.{Silent}
 use Rattle.jl_claims.specs.Steps.{IsLone}
-use Rattle.jl_store.specs.Doing.{Does}
+use Rattle.jl_clear.specs.Doing.{Does}
 use Rattle.jl_evict.specs.declared.item.Item.{Item}
 use Rattle.jl_evict.specs.declared.measure.Measure.{Measure}
 use Rattle.jl_evict.specs.declared.measure.Measure.TheVariants as measure

@@ -1,7 +1,7 @@
 // Which items go.
 ghost use Rattle.std.specs.Prelude.{◌≡◌, ◌↔◌, ◌≤◌, ◌+◌, ◌*◌, ℕ, length, take, drop, sum_by, IsTrue, Some};
 ghost use Rattle.std.specs.List.Sorted.{IsPermutation, IsSorted};
-ghost use Rattle.jl_evict.specs.Choosing.{item_cmp, bytes_of, excess, IsSpared, MayStop, IsShortest};
+ghost use Rattle.jl_evict.specs.Choosing.{item_cmp, bytes_of, excess, IsSpared, IsShortest};
 
 use crate::item::Item;
 use jl_limits::Limits;

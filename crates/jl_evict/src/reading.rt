@@ -1,6 +1,5 @@
 // Reading what a cache holds.
 ghost use Rattle.std.specs.Prelude.{◌≡◌, [], IfOk};
-ghost use Rattle.jl_text.specs.Paths.{PathView};
 ghost use Rattle.jl_text.specs.Counts.{Faults};
 ghost use Rattle.jl_folder.specs.State.{now, since};
 ghost use Rattle.jl_folder.specs.Calls.{Waits};

@@ -1,15 +1,15 @@
 // Taking away what a cache holds beyond its limits.
 ghost use Rattle.std.specs.Prelude.{◌≡◌, ℕ, List, Contains, IfOk, IfSome, IsTrue};
-ghost use Rattle.jl_text.specs.Paths.{PathView, path_of, is_part};
+ghost use Rattle.jl_text.specs.Paths.{path_of, is_part};
 ghost use Rattle.jl_text.specs.Counts.{Faults};
 ghost use Rattle.jl_folder.specs.State.{now as latest, since};
-ghost use Rattle.jl_entry.specs.Names.{IsBelow, below, root_of};
+ghost use Rattle.jl_entry.specs.Names.{below, root_of};
 ghost use Rattle.jl_claims.specs.Steps.{IsLone};
 ghost use Rattle.jl_claims.specs.Claims.{Called, Anywhere};
 ghost use Rattle.jl_laws.specs.Whole.{Answers};
 ghost use Rattle.jl_laws.specs.Proper.{IsProper, IsLawful};
 ghost use Rattle.jl_laws.specs.Tidy.{IsTidy, IsSound};
-ghost use Rattle.jl_store.specs.Cached.{AnyMove};
+ghost use Rattle.jl_clear.specs.Doing.{AnyMove};
 ghost use Rattle.jl_clear.specs.Taking.{IsTaking};
 ghost use Rattle.jl_clear.specs.Clearing.{Clears};
 ghost use Rattle.jl_evict.specs.Choosing.{bytes_of};

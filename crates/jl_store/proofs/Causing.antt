@@ -15,6 +15,7 @@ use Rattle.jl_claims.proofs.Causes.{touched_later, touched_sooner}
 use Rattle.jl_laws.specs.Proper.{IsProper}
 use Rattle.jl_laws.specs.Tidy.{IsTidy}
 use Rattle.jl_laws.proofs.Kills.{tidy_at_end}
+use Rattle.jl_clear.proofs.DoingLemmas.{rose_later, later_rose}
 use Rattle.jl_store.specs.Looking.{OpenedHas}
 use Rattle.jl_store.specs.Next.{Asked, output_asked}
 use Rattle.jl_store.specs.Warned.{IsOrderly, UsesCall, IsCaused, AreCaused, Warns}
@@ -22,7 +23,6 @@ use Rattle.jl_store.specs.Parts.{AreWarned, IsCausedFrom, WarnsFrom}
 use Rattle.jl_store.specs.declared.memory.WarnKind.{WarnKind}
 use Rattle.jl_store.specs.declared.memory.WarnKind.TheVariants.{LoadFault, StoreFault, NotMine, Damaged, Skipped}
 use Rattle.jl_store.specs.declared.memory.Warning.{Warning}
-use Rattle.jl_store.proofs.DoingLemmas.{rose_later, later_rose}
 
 -- ---- what was opened in a part of a call was opened in it
 

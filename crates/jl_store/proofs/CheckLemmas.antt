@@ -21,17 +21,19 @@ use Rattle.jl_laws.specs.Whole.{most_bytes, Answers, IsTruthful}
 use Rattle.jl_laws.specs.Tidy.{IsTidy}
 use Rattle.jl_laws.specs.Proper.{IsProper, IsLawful, RenamesTrue, LawfulThroughout}
 use Rattle.jl_laws.proofs.Kills.{tidy_carried}
-use Rattle.jl_store.specs.Doing.{Does, IsMaking, IsClearing}
+use Rattle.jl_clear.specs.Doing.{Does}
+use Rattle.jl_clear.specs.Taking.{IsFunctionFolder}
+use Rattle.jl_clear.proofs.DoingLemmas.{later_rose, moves_called, does_none}
+use Rattle.jl_store.specs.Doing.{IsMaking, IsClearing}
 use Rattle.jl_store.specs.Kinds.{IsFor, RenamesThis, PutsThis}
 use Rattle.jl_store.specs.Publishing.{EndsIn}
 use Rattle.jl_store.specs.Looking.{OpenedHas}
-use Rattle.jl_store.specs.Checking.{IsOfCode, IsHeld, Holds, IsFunctionFolder, AreFiles, IsDone, Comes, Stores, MovesFor, IsChecking, Checks, function_path, code_path, code_temp}
+use Rattle.jl_store.specs.Checking.{IsOfCode, IsHeld, Holds, AreFiles, IsDone, Comes, Stores, MovesFor, IsChecking, Checks, function_path, code_path, code_temp}
 use Rattle.jl_store.specs.declared.checks.CodeCheck.{CodeCheck}
 use Rattle.jl_store.specs.declared.checks.CodeCheck.TheVariants as check
 use Rattle.jl_store.specs.declared.checks.Held.{Held}
 use Rattle.jl_store.specs.declared.checks.Held.TheVariants as held
 use Rattle.jl_store.specs.declared.checks.CodeFiles.{CodeFiles}
-use Rattle.jl_store.proofs.DoingLemmas.{later_rose, moves_called, does_none}
 use Rattle.jl_store.proofs.LookLemmas.{read_whole}
 
 -- ---- what was read

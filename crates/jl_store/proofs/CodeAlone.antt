@@ -10,15 +10,18 @@ use Rattle.jl_folder.specs.State.{State, Trace, History, place_at, node_at, byte
 use Rattle.jl_folder.specs.Calls.{Waits}
 use Rattle.jl_folder.specs.Reading.{IsUnwritten}
 use Rattle.jl_entry.specs.Codes.{IsSameCode}
-use Rattle.jl_entry.specs.Names.{code_of, IsFinal, IsTemp, code_part, suffix}
+use Rattle.jl_entry.specs.Names.{code_of, IsFinal, IsTemp, IsStoreFolder, code_part, suffix}
 use Rattle.jl_entry.proofs.NameFacts.{final_not_folder, temp_not_folder}
 use Rattle.jl_claims.specs.Steps.{StepFact, AllSteps, Throughout, IsLone}
 use Rattle.jl_claims.proofs.Alone.{waits_alone}
 use Rattle.jl_laws.specs.Whole.{most_bytes}
+use Rattle.jl_clear.specs.Taking.{IsFunctionFolder}
+use Rattle.jl_clear.proofs.Folders.{entry_in, entry_place}
+use Rattle.jl_clear.proofs.Listings.{front_none, no_moves}
 use Rattle.jl_store.specs.Doing.{IsPrefix}
 use Rattle.jl_store.specs.Publishing.{IsPublished}
 use Rattle.jl_store.specs.Looking.{OpenedHas}
-use Rattle.jl_store.specs.Checking.{IsOfCode, Holds, IsFunctionFolder, AreFiles, IsDone, Comes, check_of, function_path, code_path, code_temp}
+use Rattle.jl_store.specs.Checking.{IsOfCode, Holds, AreFiles, IsDone, Comes, check_of, function_path, code_path, code_temp}
 use Rattle.jl_store.specs.Next.{FileHas, IsInEntry, WritesCode, ReplacesCode, ChecksAlone}
 use Rattle.jl_store.specs.Alone.{HasFolders, HasNoEntries, LeavesCode}
 use Rattle.jl_store.specs.declared.files.Published.{Published}
@@ -29,8 +32,6 @@ use Rattle.jl_store.specs.declared.checks.Held.{Held}
 use Rattle.jl_store.specs.declared.checks.Held.TheVariants as held
 use Rattle.jl_store.specs.declared.checks.CodeFiles.{CodeFiles}
 use Rattle.jl_store.proofs.Drafts.{beside_same}
-use Rattle.jl_store.proofs.Emptied.{front_none, waits_none}
-use Rattle.jl_store.proofs.TidyFolders.{entry_folder_store}
 
 -- ---- answers
 
@@ -77,13 +78,16 @@ module _ (root : PathView) (m f token : List ℕ) (files : CodeFiles) (are : Are
   prefix_apart p front (inr e) =
       omega (arith, ap length front.1, length-append p front.0, ap length e, ap length are.2.is, ap length are.0, length-append root (m ∷ f ∷ (code_part ++ suffix token) ∷ []), length-append root (m ∷ f ∷ []))
 
+  entry_folder : (p : PathView) (within : IsInEntry files.folder p) → p ≡ files.folder ++ within.0 ∷ [] → IsStoreFolder root p
+  entry_folder p within e = subst (IsStoreFolder root) (sym e) (entry_place root (files.folder ++ within.0 ∷ []) (entry_in root files.folder within.0 function_is within.1)).0
+
   -- none stands at or below an entry's folder
   entry_apart : (p : PathView) → IsInEntry files.folder p → (p ≡ files.last) ⊎ (p ≡ files.temp) → ⊥
   entry_apart p within is = by_rest within.2.0 within.2.1 is
     where
       by_rest : (rest : PathView) → p ≡ (files.folder ++ within.0 ∷ []) ++ rest → (p ≡ files.last) ⊎ (p ≡ files.temp) → ⊥
-      by_rest [] e (inl last) = final_not_folder root (code_of m f) p (subst (IsFinal root (code_of m f)) (sym last) are.1) (entry_folder_store root p (files.folder, within.0, function_is, within.1, e ∙ append-nil (files.folder ++ within.0 ∷ [])))
-      by_rest [] e (inr temp) = temp_not_folder root (code_of m f) token p (subst (IsTemp root (code_of m f) token) (sym temp) are.2) (entry_folder_store root p (files.folder, within.0, function_is, within.1, e ∙ append-nil (files.folder ++ within.0 ∷ [])))
+      by_rest [] e (inl last) = final_not_folder root (code_of m f) p (subst (IsFinal root (code_of m f)) (sym last) are.1) (entry_folder p within (e ∙ append-nil (files.folder ++ within.0 ∷ [])))
+      by_rest [] e (inr temp) = temp_not_folder root (code_of m f) token p (subst (IsTemp root (code_of m f) token) (sym temp) are.2) (entry_folder p within (e ∙ append-nil (files.folder ++ within.0 ∷ [])))
       by_rest (x ∷ xs) e (inl last) =
           let long = long_last (within.0 ∷ x ∷ xs) (sym last ∙ e ∙ append_assoc files.folder (within.0 ∷ []) (x ∷ xs)) in omega (arith, long)
       by_rest (x ∷ xs) e (inr temp) =
@@ -146,7 +150,7 @@ lone_owed Given Owed token f s (e ∷ es) lone owes =
 opened_alone : (path : PathView) (P : List ℕ → Type 0) (s : State) (moves : Trace) → moves ≡ [] → OpenedHas path P s moves → FileHas path P s
 opened_alone path P s moves none o =
     let split : o.before ++ o.later ≡ [] = sym o.split ∙ none in
-    let before : o.before ≡ [] = front_none o.before o.later split in
+    let before : o.before ≡ [] = front_none o.before o.later (sym split) in
     let later : o.later ≡ [] = ap (λ (t : Trace). t ++ o.later) (sym before) ∙ split in
     let first : run s o.before ≡ s = ap (run s) before in
     let named = ap (λ u. place_at u path) (sym first) ∙ o.named in (
@@ -160,7 +164,7 @@ module _ (root : PathView) (m f token : List ℕ) (files : CodeFiles) (are : Are
   by_answer h check.Same s t comes holds leaves no_skip no_load no_store = (opened_alone files.last (IsOfCode code) s [] refl (subst (λ (k : Held). Holds files.last code k s []) comes holds), beside_same (λ p. ⊥) s t leaves)
   by_answer h check.Written s t comes holds leaves no_skip no_load no_store =
       let at = subst (λ (k : Held). Holds files.last code k s []) comes holds in
-      (subst (λ (es : Trace). is_file (run s es) files.last ≡ false) (front_none at.0 at.1 (sym at.2)) at.3, leaves)
+      (subst (λ (es : Trace). is_file (run s es) files.last ≡ false) (front_none at.0 at.1 at.2) at.3, leaves)
   by_answer h check.Cleared s t comes holds leaves no_skip no_load no_store =
       let has = opened_alone files.last (λ b. IsSameCode code b → most_bytes < length b) s [] refl (subst (λ (k : Held). Holds files.last code k s []) comes holds) in
       ((has.0, has.1, λ is. let long = has.2 is.1 in omega (arith, long, is.0)), leaves)
@@ -172,7 +176,7 @@ module _ (root : PathView) (m f token : List ℕ) (files : CodeFiles) (are : Are
   pub check_alone : (h : Held) (r : CodeCheck) (old mid new : History) → Waits token old mid → IsLone token (since old mid) → Comes r h → Holds files.last code h (now old) (since old mid) → LeavesCode r files bytes (now mid) (now new) → (r ≡ check.Skipped → ⊥) → (r ≡ check.LoadFault → ⊥) → (r ≡ check.StoreFault → ⊥)
       → ChecksAlone r (function_path root m f) (code_path root m f) (code_temp root m f token) code bytes (now old) (now new)
   check_alone h r old mid new waits lone comes holds leaves no_skip no_load no_store =
-      let first = subst (Holds files.last code h (now old)) (waits_none token old mid waits lone) holds in
+      let first = subst (Holds files.last code h (now old)) (no_moves token old mid waits lone) holds in
       let after_it = subst (λ s. LeavesCode r files bytes s (now new)) (waits_alone token old mid waits lone) leaves in
       subst (λ (p : PathView). ChecksAlone r p (code_path root m f) (code_temp root m f token) code bytes (now old) (now new)) are.0
       (subst (λ (p : PathView). ChecksAlone r files.folder p (code_temp root m f token) code bytes (now old) (now new)) are.1.is

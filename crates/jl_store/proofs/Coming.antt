@@ -8,13 +8,13 @@ use Rattle.jl_value.specs.Library.{Answer}
 use Rattle.jl_value.specs.declared.value.Value.{Value}
 use Rattle.jl_entry.specs.Entry.{Members}
 use Rattle.jl_claims.specs.Claims.{GoesOn}
+use Rattle.jl_clear.proofs.DoingLemmas.{rose_later, later_rose}
 use Rattle.jl_store.specs.Cached.{ComesBy, ComesTidy, IsMissed}
 use Rattle.jl_store.specs.Looking.{Finds, Missing, absent, failed, other, damaged, IsMissing, StandsWith, Stands}
 use Rattle.jl_store.specs.declared.cached.Cached.{Cached}
 use Rattle.jl_store.specs.declared.cached.Cached.TheVariants.{Hit, Computed, Error, NoMemory}
 use Rattle.jl_store.specs.declared.found.Found.TheVariants as found
 use Rattle.jl_store.proofs.Causing.{opened_sooner, opened_later, at_sooner, at_later}
-use Rattle.jl_store.proofs.DoingLemmas.{rose_later, later_rose}
 
 module _ (path : PathView) (code : List ℕ) (ps : Members) (old mid new : History) (tells : Type 0) (first : tells → GoesOn old mid) (second : tells → GoesOn mid new) (f0 f1 f2 : ℕ) where
   -- no entry of this code and these arguments stands

@@ -16,7 +16,8 @@ use Rattle.jl_claims.proofs.Alone.{moves_alone}
 use Rattle.jl_claims.proofs.Touched.{step_or_touch}
 use Rattle.jl_claims.proofs.Effects.{created_here, created_node, created_nodes, appended_node, appended_nodes, renamed_here, renamed_from, renamed_node, renamed_nodes}
 use Rattle.jl_laws.proofs.Before.{some_not_none, renumber, node_of, created_files}
-use Rattle.jl_store.specs.Publishing.{MakesFile, TakesAway, IsBeside, IsDraft, IsPublished, TempAlone}
+use Rattle.jl_clear.specs.Taking.{IsBeside}
+use Rattle.jl_store.specs.Publishing.{MakesFile, TakesAway, IsDraft, IsPublished, TempAlone}
 use Rattle.jl_store.specs.declared.temporary.TempFile.{TempFile}
 use Rattle.jl_store.specs.declared.temporary.TempFile.TheVariants as temp_file
 use Rattle.jl_store.specs.declared.temporary.Taken.TheVariants as taken

@@ -27,10 +27,10 @@ use Rattle.jl_laws.specs.Tidy.{IsTidy}
 use Rattle.jl_laws.specs.Proper.{IsProper}
 use Rattle.jl_laws.proofs.Kills.{tidy_carried}
 use Rattle.jl_laws.proofs.LawfulCalls.{always_make_dir}
-use Rattle.jl_store.specs.Publishing.{IsBeside}
+use Rattle.jl_clear.specs.Taking.{IsBeside}
+use Rattle.jl_clear.proofs.Folders.{final_no_folder, temp_no_folder}
 use Rattle.jl_store.specs.Keeping.{Entry, entry_path, function_path, file_of, last_of, temp_of, IsKeeping, RenamesEntry, PutsEntry, UsesEntry, Keeps, IsReadyFor, AreReady, IsAnyFile, made_of}
 use Rattle.jl_store.specs.declared.answer.Keep.TheVariants as keep
-use Rattle.jl_store.proofs.NamePlaces.{final_no_folder, temp_no_folder}
 use Rattle.jl_store.proofs.Drafts.{beside_same, untouched, bytes_stay}
 use Rattle.jl_store.proofs.EntryNames.{IsNamed, final_of, temp_is, entry_in_store, entry_parent, entry_home, entry_not_last, entry_not_temp}
 

@@ -10,9 +10,10 @@ use Rattle.jl_entry.specs.declared.names.EntryFile.{EntryFile}
 use Rattle.jl_entry.specs.declared.names.EntryFile.TheVariants.{Output, Metadata, Access}
 use Rattle.jl_entry.specs.Names.{IsFinal, IsTemp, IsStoreFolder, is_key, entry_part, suffix, below}
 use Rattle.jl_claims.proofs.Touched.{IsApart}
+use Rattle.jl_clear.proofs.Paths.{parent_in}
 use Rattle.jl_store.specs.Kinds.{IsFor}
 use Rattle.jl_store.specs.Keeping.{Entry, function_path, entry_path, file_of, last_of, temp_of}
-use Rattle.jl_store.proofs.NamePlaces.{parent_in, free_of_two}
+use Rattle.jl_store.proofs.NamePlaces.{free_of_two}
 
 -- its module and its function are names, and its key is a key
 abbrev pub IsNamed : Entry → Type 0

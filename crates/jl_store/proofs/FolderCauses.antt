@@ -26,8 +26,8 @@ use Rattle.jl_laws.specs.Proper.{IsProper}
 use Rattle.jl_laws.specs.Tidy.{IsTidy}
 use Rattle.jl_laws.proofs.Before.{some_of}
 use Rattle.jl_laws.proofs.Kills.{tidy_at_end}
+use Rattle.jl_clear.specs.Taking.{IsFunctionFolder}
 use Rattle.jl_store.specs.Doing.{IsPrefix}
-use Rattle.jl_store.specs.Checking.{IsFunctionFolder}
 use Rattle.jl_store.specs.Storing.{folders_of, StepOr, FoldersOr}
 use Rattle.jl_store.specs.declared.folders.MadeFolders.{MadeFolders}
 use Rattle.jl_store.specs.declared.folders.MadeFolders.TheVariants as made_folders

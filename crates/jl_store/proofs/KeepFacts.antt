@@ -18,14 +18,15 @@ use Rattle.jl_claims.proofs.Composed.{then_called, called_as, called_for, called
 use Rattle.jl_laws.specs.Tidy.{IsTidy}
 use Rattle.jl_laws.specs.Proper.{IsProper}
 use Rattle.jl_laws.proofs.Kills.{tidy_carried}
+use Rattle.jl_clear.specs.Taking.{IsBeside}
+use Rattle.jl_clear.proofs.Folders.{final_no_folder, temp_no_folder}
 use Rattle.jl_store.specs.Kinds.{IsFor, RenamesThis, PutsThis, UsesNames}
-use Rattle.jl_store.specs.Publishing.{EndsIn, Publishes, IsBeside, IsPublished}
+use Rattle.jl_store.specs.Publishing.{EndsIn, Publishes, IsPublished}
 use Rattle.jl_store.specs.Keeping.{Entry, entry_path, file_of, last_of, temp_of, IsKeeping, RenamesEntry, PutsEntry, UsesEntry, UsesFiles, Includes, HasPut, Keeps, KeepsFile, IsReadyFor, HasFiles, HasEntry, AreReady, IsMoments, IsAnyFile, IsReadyToTouch, keep_of}
 use Rattle.jl_store.specs.declared.files.Published.{Published}
 use Rattle.jl_store.specs.declared.files.Published.TheVariants as published
 use Rattle.jl_store.specs.declared.answer.Keep.{Keep}
 use Rattle.jl_store.specs.declared.answer.Keep.TheVariants as keep
-use Rattle.jl_store.proofs.NamePlaces.{final_no_folder, temp_no_folder}
 use Rattle.jl_store.proofs.EntryNames.{IsNamed, final_of, temp_is, last_parent, last_free, last_home, entry_not_last, entry_not_temp, last_not_last, last_not_temp, temp_not_last, temp_not_temp, for_apart}
 
 -- ---- one file

@@ -13,7 +13,7 @@ use Rattle.jl_laws.specs.Whole.{Answers}
 use Rattle.jl_laws.specs.Tidy.{IsTidy, IsSound}
 use Rattle.jl_laws.specs.Proper.{IsProper, IsLawful, RenamesTrue, LawfulThroughout}
 use Rattle.jl_laws.proofs.Kills.{sound_carried, sound_at_end}
-use Rattle.jl_store.specs.Cached.{AnyMove}
+use Rattle.jl_clear.specs.Doing.{AnyMove}
 use Rattle.jl_store.specs.Trust.{IsTrusted}
 
 module _ (root : PathView) (answer : Answers) (token : List ℕ) where

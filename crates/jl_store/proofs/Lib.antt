@@ -1,11 +1,10 @@
 pub mod Answering
 pub mod Causing
 pub mod CheckLemmas
+pub mod Cleared
 pub mod CodeAlone
 pub mod Coming
-pub mod DoingLemmas
 pub mod Drafts
-pub mod Emptied
 pub mod Ending
 pub mod EntryMade
 pub mod EntryNames
@@ -17,11 +16,11 @@ pub mod KindFacts
 pub mod Lawfully
 pub mod LoneCalls
 pub mod LoneMoves
+pub mod MadeFolders
 pub mod LookLemmas
 pub mod LookTidy
 pub mod Making
 pub mod NamePlaces
-pub mod NameTests
 pub mod PartWarnings
 pub mod Readiness
 pub mod SkipCauses

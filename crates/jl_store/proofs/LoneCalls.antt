@@ -22,6 +22,7 @@ use Rattle.jl_laws.specs.Proper.{IsProper, IsLawful}
 use Rattle.jl_laws.specs.Tidy.{IsTidy, IsSound}
 use Rattle.jl_laws.specs.Whole.{Answers}
 use Rattle.jl_laws.proofs.Kills.{tidy_at_end}
+use Rattle.jl_clear.proofs.Listings.{no_moves}
 use Rattle.jl_store.specs.Warned.{IsOrderly, UsesCall, IsCaused, AreCaused, Warns, AreOthers, WarnsOfOthers}
 use Rattle.jl_store.specs.Publishing.{IsPublished}
 use Rattle.jl_store.specs.Checking.{function_path, code_path, code_temp}
@@ -43,7 +44,6 @@ use Rattle.jl_store.specs.declared.memory.WarnKind.TheVariants.{LoadFault, Store
 use Rattle.jl_store.proofs.Lawfully.{Lawfully}
 use Rattle.jl_store.proofs.LoneMoves.{lone_untouched}
 use Rattle.jl_store.proofs.CodeAlone.{lone_owed}
-use Rattle.jl_store.proofs.Emptied.{waits_none}
 use Rattle.jl_store.proofs.SkipCauses.{and_second}
 use Rattle.jl_store.proofs.EntryNames.{last_parent, last_free}
 
@@ -96,7 +96,7 @@ pub look_alone : (a : Asked) (token : List ℕ) (r : Look) (ws ws' : List Warnin
     → (IsTidy a.root (now old) → AllSteps (IsProper a.root) (now old) (since old new) → LooksTidy r ws ws' a.function_name (output_asked a) a.code a.args f f' (now old) (since old new))
     → LooksTidy r ws ws' a.function_name (output_asked a) a.code a.args f f' (now old) []
 look_alone a token r ws ws' f f' old new waits lone tidy looks =
-    let none = waits_none token old new waits lone in
+    let none = no_moves token old new waits lone in
     subst (λ (xs : Trace). LooksTidy r ws ws' a.function_name (output_asked a) a.code a.args f f' (now old) xs) none
     (looks tidy (subst (AllSteps (IsProper a.root) (now old)) (sym none) (no_steps (IsProper a.root) (now old))))
 

@@ -19,6 +19,7 @@ use Rattle.jl_claims.proofs.Touched.{step_or_touch, same_or_touched, touched_rig
 use Rattle.jl_claims.proofs.Causes.{folder_as, until_end}
 use Rattle.jl_laws.specs.Proper.{IsProper}
 use Rattle.jl_laws.proofs.Kills.{tidy_at_end}
+use Rattle.jl_clear.proofs.Paths.{parent_in}
 use Rattle.jl_store.specs.Checking.{UsesCode, Checks, function_path, code_path, code_temp}
 use Rattle.jl_store.specs.Keeping.{entry_path}
 use Rattle.jl_store.specs.Looking.{OpenedHas}
@@ -29,7 +30,7 @@ use Rattle.jl_store.specs.Parts.{HasFunction, HasFolder}
 use Rattle.jl_store.specs.declared.checks.CodeCheck.{CodeCheck}
 use Rattle.jl_store.specs.declared.checks.CodeCheck.TheVariants as check
 use Rattle.jl_store.proofs.SkipCauses.{and_second}
-use Rattle.jl_store.proofs.NamePlaces.{parent_in, free_of_two}
+use Rattle.jl_store.proofs.NamePlaces.{free_of_two}
 use Rattle.jl_store.proofs.EntryNames.{last_parent, last_free}
 
 OwnMoves-right : (token : List ℕ) (Kinds : Move → Type 0) (xs ys : Trace) → OwnMoves token Kinds (xs ++ ys) → OwnMoves token Kinds ys

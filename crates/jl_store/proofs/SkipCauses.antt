@@ -20,7 +20,9 @@ use Rattle.jl_claims.proofs.Causes.{touched_later, touched_sooner, until_end}
 use Rattle.jl_laws.specs.Proper.{IsProper}
 use Rattle.jl_laws.specs.Tidy.{IsTidy}
 use Rattle.jl_laws.proofs.Kills.{tidy_at_end}
-use Rattle.jl_store.specs.Doing.{IsPrefix, IsEmptying, IsClearing, Moves}
+use Rattle.jl_clear.specs.Doing.{Moves}
+use Rattle.jl_clear.proofs.Paths.{parent_in}
+use Rattle.jl_store.specs.Doing.{IsPrefix, IsEmptying, IsClearing}
 use Rattle.jl_store.specs.Kinds.{UsesNames}
 use Rattle.jl_store.specs.Looking.{OpenedHas}
 use Rattle.jl_store.specs.Checking.{AreFiles, Holds, UsesCode, check_of}
@@ -31,7 +33,7 @@ use Rattle.jl_store.specs.declared.checks.CodeCheck.TheVariants as check
 use Rattle.jl_store.specs.declared.checks.Held.{Held}
 use Rattle.jl_store.specs.declared.checks.Held.TheVariants as held
 use Rattle.jl_store.specs.declared.checks.CodeFiles.{CodeFiles}
-use Rattle.jl_store.proofs.NamePlaces.{parent_in, free_of_two}
+use Rattle.jl_store.proofs.NamePlaces.{free_of_two}
 
 -- ---- answers
 

@@ -1,5 +1,5 @@
 -- Moves that make a function's folder, clear its entries or publish its code are proper and rename nothing else.
-use Rattle.std.proofs.Common.{◌≡◌, ◌⊎◌, inl, inr, ⊎_elim, ℕ, ◌≤◌, ◌<◌, ◌^◌, List, [], ◌∷◌, ◌++◌, length, false, true≢false, refl, sym, ap, subst, ◌∙◌, arith, append_assoc, length-append, decimal}
+use Rattle.std.proofs.Common.{◌≡◌, ◌⊎◌, inl, inr, ⊎_elim, ℕ, ◌≤◌, ◌<◌, ◌^◌, List, [], ◌∷◌, ◌++◌, length, false, true≢false, refl, sym, ap, subst, ◌∙◌, arith, length-append, decimal}
 use Rattle.std.proofs.lemmas.Fmt.{length-decimal-le}
 use Rattle.std.specs.Prelude.{IsTrue}
 use Rattle.jl_text.specs.Paths.{PathView, is_fixed}
@@ -8,12 +8,13 @@ use Rattle.jl_folder.specs.declared.moves.Move.{Move}
 use Rattle.jl_folder.specs.declared.moves.Move.TheVariants.{MakeDir, Create, Append, Rename, Remove, RemoveDir}
 use Rattle.jl_folder.specs.State.{State}
 use Rattle.jl_entry.specs.Codes.{code_text, line_words}
-use Rattle.jl_entry.specs.Names.{code_of, entry_of, IsStoreFolder, IsStoreName, IsOnWay, IsFolderParts, is_rooted, is_key, entry_part, suffix, below}
+use Rattle.jl_entry.specs.Names.{code_of, IsStoreFolder, IsStoreName, IsOnWay, IsFolderParts, is_rooted, is_key}
 use Rattle.jl_laws.specs.Whole.{IsWhole}
 use Rattle.jl_laws.proofs.LawfulCalls.{always_make_dir, always_remove, always_remove_dir}
-use Rattle.jl_store.specs.Doing.{IsPrefix, IsMaking, IsEntryName, IsEmptying, IsClearing}
+use Rattle.jl_clear.proofs.Folders.{entry_in, entry_name, entry_place}
+use Rattle.jl_clear.specs.Taking.{IsEntryName, IsFunctionFolder}
+use Rattle.jl_store.specs.Doing.{IsPrefix, IsMaking, IsEmptying, IsClearing}
 use Rattle.jl_store.specs.Kinds.{RenamesThis, PutsThis}
-use Rattle.jl_store.specs.Checking.{IsFunctionFolder}
 
 -- of two ways to split a path, the second front is in the first or goes beyond it
 split : (root tail p rest : PathView) → root ++ tail ≡ p ++ rest → ((r : PathView) × (root ≡ p ++ r)) ⊎ ((q : PathView) × (p ≡ root ++ q) × (tail ≡ q ++ rest))
@@ -53,20 +54,11 @@ prefix_store root folder p fun free front =
 
 -- an entry's folder is one of the store
 entry_store : (root folder : PathView) (key : List ℕ) (p : PathView) → IsFunctionFolder root folder → IsTrue (is_key key) → p ≡ folder ++ key ∷ [] → IsStoreFolder root p
-unfolding IsStoreFolder
-entry_store root folder key p fun is e =
-    inr (fun.0 ∷ fun.1 ∷ key ∷ [], (fun.2, fun.3, is), e ∙ ap (λ (q : PathView). q ++ key ∷ []) fun.4 ∙ append_assoc root (fun.0 ∷ fun.1 ∷ []) (key ∷ []))
+entry_store root folder key p fun is e = subst (IsStoreFolder root) (sym e) (entry_place root (folder ++ key ∷ []) (entry_in root folder key fun is)).0
 
 -- and a file's name in it is one of the store
 name_store : (root folder : PathView) (key part : List ℕ) (p : PathView) → IsFunctionFolder root folder → IsTrue (is_key key) → IsEntryName part → p ≡ (folder ++ key ∷ []) ++ part ∷ [] → IsStoreName root p
-name_store root folder key part p fun is (file, named) e = by_case named
-  where
-    path : p ≡ below root (fun.0 ∷ fun.1 ∷ key ∷ part ∷ [])
-    path = e ∙ ap (λ (q : PathView). (q ++ key ∷ []) ++ part ∷ []) fun.4 ∙ append_assoc (root ++ fun.0 ∷ fun.1 ∷ []) (key ∷ []) (part ∷ []) ∙ append_assoc root (fun.0 ∷ fun.1 ∷ []) (key ∷ part ∷ [])
-
-    by_case : (part ≡ entry_part file) ⊎ ((token : List ℕ) × (part ≡ entry_part file ++ suffix token)) → IsStoreName root p
-    by_case (inl e') = inl (entry_of file fun.0 fun.1 key, record { formed = (fun.2, fun.3, is); is = path ∙ ap (λ (w : List ℕ). below root (fun.0 ∷ fun.1 ∷ key ∷ w ∷ [])) e' })
-    by_case (inr e') = inr (entry_of file fun.0 fun.1 key, e'.0, record { formed = (fun.2, fun.3, is); is = path ∙ ap (λ (w : List ℕ). below root (fun.0 ∷ fun.1 ∷ key ∷ w ∷ [])) e'.1 })
+name_store root folder key part p fun is named e = subst (IsStoreName root) (sym e) (entry_name root (folder ++ key ∷ []) part (entry_in root folder key fun is) named)
 
 module _ (root folder : PathView) (fun : IsFunctionFolder root folder) (last : PathView) (bytes : List ℕ) (token : List ℕ) (s : State) where
   pub making_puts : (m : Move) → IsMaking folder m → PutsThis root last bytes token s m

@@ -1,15 +1,12 @@
--- What making folders and clearing leave where no other moved meanwhile.
-use Rattle.std.specs.Prelude.{◌≡◌, ℕ, List, [], ◌∷◌, ◌++◌, true, false, None, IsTrue, Contains, ⊤}
+-- What making folders and storing a code leave where no other moved meanwhile.
+use Rattle.std.specs.Prelude.{◌≡◌, ℕ, List, true, None, IsTrue, ⊤}
 use Rattle.jl_text.specs.Paths.{PathView}
 use Rattle.jl_text.specs.Texts.{is_name}
-use Rattle.jl_folder.specs.State.{State, place_at, is_folder, is_file}
-use Rattle.jl_folder.specs.Listing.{Stands}
-use Rattle.jl_folder.specs.declared.listing.Name.{Name}
-use Rattle.jl_entry.specs.Names.{is_key}
+use Rattle.jl_folder.specs.State.{State, place_at, is_folder}
 use Rattle.jl_laws.specs.Tidy.{IsTidy}
-use Rattle.jl_store.specs.Doing.{IsPrefix, IsEntryName}
-use Rattle.jl_store.specs.Publishing.{IsBeside}
-use Rattle.jl_store.specs.Checking.{IsFunctionFolder, AreFiles}
+use Rattle.jl_clear.specs.Taking.{IsBeside}
+use Rattle.jl_store.specs.Doing.{IsPrefix}
+use Rattle.jl_store.specs.Checking.{AreFiles}
 use Rattle.jl_store.specs.Next.{IsInEntry, WritesCode, ReplacesCode}
 use Rattle.jl_store.specs.declared.checks.CodeFiles.{CodeFiles}
 use Rattle.jl_store.specs.declared.checks.CodeCheck.{CodeCheck}
@@ -24,31 +21,10 @@ pub record HasFolders (path : PathView) (before after : State) : Type 0 where
 
 -- ---- clearing
 
--- the folder of an entry
-abbrev pub IsEntryFolder : (root : PathView) → PathView → Type 0
-IsEntryFolder root entry = (function : PathView) × (key : List ℕ) × IsFunctionFolder root function × IsTrue (is_key key) × (entry ≡ function ++ key ∷ [])
-
--- nothing stands at or below this path, and all else is as before
-pub record IsGone (path : PathView) (before after : State) : Type 0 where
-  pub empty : (p : PathView) → IsPrefix path p → place_at after p ≡ None
-  pub beside : IsBeside (λ p. IsPrefix path p) before after
-
 -- nothing stands at or below the folder of an entry of this function, and all else is as before
 pub record HasNoEntries (function : PathView) (before after : State) : Type 0 where
   pub empty : (p : PathView) → IsInEntry function p → place_at after p ≡ None
   pub beside : IsBeside (λ p. IsInEntry function p) before after
-
--- of these names of an entry's folder none that is a file's of an entry names a file
-abbrev pub HasNoFilesOf : PathView → List Name → State → Type 0
-HasNoFilesOf entry names s = (name : Name) → Contains names name → IsEntryName name.part → is_file s (entry ++ name.part ∷ []) ≡ false
-
--- of these names of a function's folder none that is an entry's names a folder
-abbrev pub HasNoFoldersOf : PathView → List Name → State → Type 0
-HasNoFoldersOf function names s = (name : Name) → Contains names name → IsTrue (is_key name.part) → is_folder s (function ++ name.part ∷ []) ≡ false
-
--- each name that stands in the folder is among these
-abbrev pub AreAllOf : State → PathView → List Name → Type 0
-AreAllOf s folder names = (name : Name) → Stands s folder name → Contains names name
 
 -- ---- storing a code
 

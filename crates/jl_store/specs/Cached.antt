@@ -2,7 +2,6 @@
 use Rattle.std.specs.Prelude.{◌≡◌, ◌⊎◌, ℕ, List, ⊤}
 use Rattle.jl_text.specs.Paths.{PathView}
 use Rattle.jl_text.specs.Counts.{Rose}
-use Rattle.jl_folder.specs.declared.moves.Move.{Move}
 use Rattle.jl_folder.specs.State.{State, Trace, AtSome}
 use Rattle.jl_value.specs.Form.{tree_of}
 use Rattle.jl_value.specs.Library.{Answer, value, error, next_count}
@@ -11,10 +10,6 @@ use Rattle.jl_store.specs.Looking.{Finds, Missing, IsMissing, StandsWith, Stands
 use Rattle.jl_store.specs.declared.found.Found.TheVariants as found
 use Rattle.jl_store.specs.declared.cached.Cached.{Cached}
 use Rattle.jl_store.specs.declared.cached.Cached.TheVariants.{Hit, Computed, Error, NoMemory}
-
--- any move
-abbrev pub AnyMove : Move → Type 0
-AnyMove m = ⊤
 
 -- a value or an error is the library's answer; of a value that was found this rests on the folder
 abbrev pub IsAnswer : Cached → Answer → (trusted : Type 0) → Type 0

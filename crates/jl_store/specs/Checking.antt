@@ -25,6 +25,7 @@ use Rattle.jl_store.specs.declared.checks.CodeCheck.TheVariants as check
 use Rattle.jl_store.specs.declared.checks.Held.{Held}
 use Rattle.jl_store.specs.declared.checks.Held.TheVariants as held
 use Rattle.jl_store.specs.declared.checks.CodeFiles.{CodeFiles}
+use Rattle.jl_clear.specs.Taking.{IsFunctionFolder}
 
 -- ---- what the file holds
 
@@ -49,10 +50,6 @@ Holds path code held.Fault s moves = ⊤
 Holds path code held.NoMemory s moves = ⊤
 
 -- ---- the files
-
--- the folder of a function
-abbrev pub IsFunctionFolder : (root : PathView) → PathView → Type 0
-IsFunctionFolder root folder = (m f : List ℕ) × IsTrue (is_name m) × IsTrue (is_name f) × (folder ≡ below root (m ∷ f ∷ []))
 
 -- the folder, and the code's final and temporary name, of this function
 abbrev pub AreFiles : (root : PathView) → (module' name token : List ℕ) → CodeFiles → Type 0

@@ -17,8 +17,8 @@ use Rattle.jl_claims.specs.Claims.{Called, Anywhere}
 use Rattle.jl_claims.specs.Touches.{TouchedByOther}
 use Rattle.jl_laws.specs.Proper.{IsProper}
 use Rattle.jl_laws.specs.Tidy.{NodeHas, IsTidy}
+use Rattle.jl_clear.specs.Taking.{IsBeside}
 use Rattle.jl_store.specs.Kinds.{IsFor, PutsThis, UsesNames}
-use Rattle.jl_store.specs.Publishing.{IsBeside}
 use Rattle.jl_folder.specs.declared.folder.MadeDir.{MadeDir}
 use Rattle.jl_folder.specs.declared.folder.MadeDir.TheVariants as made_dir
 use Rattle.hex.specs.Hex.{encode_lower}

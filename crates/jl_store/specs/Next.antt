@@ -11,8 +11,9 @@ use Rattle.jl_entry.specs.Codes.{code_text}
 use Rattle.jl_entry.specs.Entry.{Members}
 use Rattle.jl_entry.specs.Moments.{access_text}
 use Rattle.jl_entry.specs.declared.names.EntryFile.TheVariants.{Access}
+use Rattle.jl_clear.specs.Taking.{IsBeside}
 use Rattle.jl_store.specs.Doing.{IsPrefix}
-use Rattle.jl_store.specs.Publishing.{IsBeside, IsPublished}
+use Rattle.jl_store.specs.Publishing.{IsPublished}
 use Rattle.jl_store.specs.Checking.{IsOfCode, function_path, code_path, code_temp}
 use Rattle.jl_store.specs.Keeping.{Entry, HasEntry, last_of, temp_of, texts}
 use Rattle.jl_store.specs.Looking.{StandsWith, Stands, output_path}

@@ -22,6 +22,7 @@ use Rattle.jl_store.specs.declared.files.Wrote.{Wrote}
 use Rattle.jl_store.specs.declared.files.Wrote.TheVariants as wrote
 use Rattle.jl_store.specs.declared.files.Published.{Published}
 use Rattle.jl_store.specs.declared.files.Published.TheVariants as published
+use Rattle.jl_clear.specs.Taking.{IsBeside}
 
 -- for every root and final file whose temporary name this is: own steps of these kinds, proper wherever all steps before them are;
 -- begun where Pre held, and where all steps are proper, the call ends where Post holds
@@ -92,10 +93,6 @@ pub record Publishes (root : PathView) (token : List ℕ) (last temp : PathView)
   pub skipped : result ≡ published.Skipped → IsReady last temp (now old) → TouchedByOther token (UsesNames last temp) (since old new)
 
 -- ---- alone
-
--- all look-ups but those at these names are as before
-abbrev pub IsBeside : (PathView → Type 0) → State → State → Type 0
-IsBeside Uses before after = (p : PathView) → (Uses p → ⊥) → (place_at after p ≡ place_at before p) × (bytes_at after p ≡ bytes_at before p)
 
 -- the temporary name alone names the own unfrozen node, which has these bytes, and all else is as before
 pub record IsDraft (token : List ℕ) (temp : PathView) (n : ℕ) (bytes : List ℕ) (before after : State) : Type 0 where

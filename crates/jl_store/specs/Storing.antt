@@ -1,4 +1,4 @@
--- What making folders and clearing answer.
+-- What making folders answers.
 use Rattle.std.specs.Prelude.{◌≡◌, ◌⊎◌, ℕ, List, Some, ⊤}
 use Rattle.jl_text.specs.Paths.{PathView, parent}
 use Rattle.jl_folder.specs.declared.moves.Place.TheVariants.{Folder}
@@ -7,14 +7,8 @@ use Rattle.jl_claims.specs.Touches.{TouchedByOther}
 use Rattle.jl_store.specs.Doing.{IsPrefix}
 use Rattle.jl_folder.specs.declared.folder.MadeDir.{MadeDir}
 use Rattle.jl_folder.specs.declared.folder.MadeDir.TheVariants as made_dir
-use Rattle.jl_folder.specs.declared.folder.Removed.{Removed}
-use Rattle.jl_folder.specs.declared.folder.Removed.TheVariants as removed
-use Rattle.jl_folder.specs.declared.folder.RemovedDir.{RemovedDir}
-use Rattle.jl_folder.specs.declared.folder.RemovedDir.TheVariants as removed_dir
 use Rattle.jl_store.specs.declared.folders.MadeFolders.{MadeFolders}
 use Rattle.jl_store.specs.declared.folders.MadeFolders.TheVariants as made_folders
-use Rattle.jl_store.specs.declared.clearing.Clear.{Clear}
-use Rattle.jl_store.specs.declared.clearing.Clear.TheVariants as clear
 
 -- a folder that is there is as good as made
 abbrev pub folders_of : MadeDir → MadeFolders
@@ -23,21 +17,6 @@ folders_of made_dir.Exists = made_folders.Made
 folders_of made_dir.NoParent = made_folders.Skipped
 folders_of made_dir.Failed = made_folders.Fault
 folders_of made_dir.NoMemory = made_folders.NoMemory
-
--- a file that is gone is cleared
-abbrev pub clear_of : Removed → Clear
-clear_of removed.Done = clear.Cleared
-clear_of removed.NoFile = clear.Cleared
-clear_of removed.Failed = clear.Fault
-clear_of removed.NoMemory = clear.NoMemory
-
--- so is a folder, and one in which something else stands stays
-abbrev pub clear_of_folder : RemovedDir → Clear
-clear_of_folder removed_dir.Done = clear.Cleared
-clear_of_folder removed_dir.NoDir = clear.Cleared
-clear_of_folder removed_dir.NotEmpty = clear.Cleared
-clear_of_folder removed_dir.Failed = clear.Fault
-clear_of_folder removed_dir.NoMemory = clear.NoMemory
 
 -- one folder is there at the end; or its parent was gone, which another made or removed if it was there before
 abbrev pub StepOr : MadeFolders → List ℕ → PathView → History → History → Type 0

@@ -14,6 +14,7 @@ ghost use Rattle.jl_claims.specs.Claims.{Called, Anywhere};
 ghost use Rattle.jl_laws.specs.Whole.{Answers, IsWhole};
 ghost use Rattle.jl_laws.specs.Tidy.{IsTidy};
 ghost use Rattle.jl_laws.specs.Proper.{IsProper, LawfulThroughout};
+ghost use Rattle.jl_clear.specs.Taking.{IsFunctionFolder};
 ghost use Rattle.jl_store.specs.Alone.{LeavesAlone};
 ghost use Rattle.jl_store.specs.Kinds.{IsFor, PutsThis, UsesNames};
 ghost use Rattle.jl_store.specs.Next.{ChecksAlone};
@@ -21,11 +22,11 @@ ghost use Rattle.jl_store.specs.Publishing.{IsPublished};
 ghost use Rattle.jl_store.specs.Checking.{IsHeld, Holds, AreFiles, IsDone, Stores, MovesFor, Comes, UsesCode, SkipsFor, Checks, IsChecking, check_of, function_path, code_path, code_temp};
 
 use crate::checks::{CodeCheck, CodeFiles, Held};
-use crate::clearing::{Clear, clear_entries};
 use crate::files::{Published, publish};
 use crate::folders::{MadeFolders, make_folders};
 use crate::memory::Memory;
 use crate::reading::read_final;
+use jl_clear::{Clear, clear_entries};
 use jl_entry::{code_file, function_folder, same_code, temp_name, write_code};
 use jl_folder::{FileRead, Folder, Path};
 use std::alloc::{AllocError, Global};
@@ -126,7 +127,8 @@ fn write_over<F: Folder>(
     files: &CodeFiles,
     bytes: &[u8],
 ) -> CodeCheck
-    requires { files.now.temp ≢ files.now.last }
+    requires apart { files.now.temp ≢ files.now.last }
+    requires of_function { (root : PathView) × IsFunctionFolder root files.now.folder }
     ensures stores { Stores F.token F.told F.history F.opens F.faults files.now bytes.now (MovesFor files.now Held.Other) result folder.old folder.new }
     ensures comes { Comes result Held.Other }
     ensures skips { F.told folder.old → SkipsFor result (F.token folder.old) files.now bytes.now (λ s. place_at s files.now.folder ≡ Some Place.Folder) (F.history folder.old) (F.history folder.new) }
@@ -147,7 +149,8 @@ fn follow<F: Folder>(
     bytes: &[u8],
     held: Held,
 ) -> CodeCheck
-    requires { files.now.temp ≢ files.now.last }
+    requires apart { files.now.temp ≢ files.now.last }
+    requires of_function { (root : PathView) × IsFunctionFolder root files.now.folder }
     ensures stores { Stores F.token F.told F.history F.opens F.faults files.now bytes.now (MovesFor files.now held) result folder.old folder.new }
     ensures comes { Comes result held }
     ensures skips { F.told folder.old → SkipsFor result (F.token folder.old) files.now bytes.now (λ s. held ≡ Held.Other → place_at s files.now.folder ≡ Some Place.Folder) (F.history folder.old) (F.history folder.new) }

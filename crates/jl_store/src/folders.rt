@@ -7,9 +7,10 @@ ghost use Rattle.jl_entry.specs.Names.{IsStoreFolder};
 ghost use Rattle.jl_claims.specs.Steps.{AllSteps, IsLone};
 ghost use Rattle.jl_laws.specs.Proper.{IsProper};
 ghost use Rattle.jl_laws.specs.Tidy.{IsTidy};
+ghost use Rattle.jl_clear.specs.Taking.{IsFunctionFolder};
+ghost use Rattle.jl_clear.specs.Doing.{Does};
 ghost use Rattle.jl_store.specs.Alone.{HasFolders};
-ghost use Rattle.jl_store.specs.Checking.{IsFunctionFolder};
-ghost use Rattle.jl_store.specs.Doing.{Does, IsMaking};
+ghost use Rattle.jl_store.specs.Doing.{IsMaking};
 ghost use Rattle.jl_store.specs.Storing.{folders_of, StepOr, FoldersOr};
 
 use jl_folder::{Folder, MadeDir, Path};

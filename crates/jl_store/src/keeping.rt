@@ -13,8 +13,9 @@ ghost use Rattle.jl_claims.specs.Claims.{GoesOn};
 ghost use Rattle.jl_claims.specs.Touches.{TouchedByOther};
 ghost use Rattle.jl_laws.specs.Tidy.{IsTidy};
 ghost use Rattle.jl_laws.specs.Whole.{IsWhole};
+ghost use Rattle.jl_clear.specs.Taking.{IsBeside};
 ghost use Rattle.jl_store.specs.Kinds.{UsesNames};
-ghost use Rattle.jl_store.specs.Publishing.{IsBeside, IsPublished};
+ghost use Rattle.jl_store.specs.Publishing.{IsPublished};
 ghost use Rattle.jl_store.specs.Keeping.{entry_in, entry_path, function_path, file_of, last_of, temp_of, texts as texts_of, text_in, AreWhole, keep_of, made_of, IsKeepable, Keeps, KeepsFile, HasPutMoments, HasPutAll, IsMoments, IsAnyFile, Entry, UsesEntry, IsReadyFor, AreReady, IsReadyToKeep, IsReadyToTouch, HasFiles, HasEntry};
 ghost use Rattle.jl_store.specs.declared.keeping.EntryTexts.{EntryTexts};
 

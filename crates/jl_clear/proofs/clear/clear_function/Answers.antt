@@ -1,11 +1,8 @@
-use Rattle.std.proofs.Common.{◌≡◌, ◌∷◌, [], refl, sym, subst}
-use Rattle.hex.specs.Hex.{encode_lower}
+use Rattle.std.proofs.Common.{◌≡◌, ◌∷◌, [], subst}
 use Rattle.jl_text.specs.Paths.{PathView}
 use Rattle.jl_entry.specs.Names.{IsBelow, below, root_of}
 use Rattle.jl_claims.specs.Claims.{Anywhere}
-use Rattle.jl_store.specs.declared.clearing.Clear.TheVariants.{Cleared, Fault, NoMemory}
-use Rattle.jl_store.specs.Checking.{IsFunctionFolder}
-use Rattle.jl_clear.specs.Taking.{IsModuleFolder, IsEntryFolder, IsInside}
+use Rattle.jl_clear.specs.declared.removing.Clear.TheVariants.{Cleared, Fault, NoMemory}
 use Rattle.jl_clear.specs.Clearing.{Clears}
 use Rattle.jl_clear.proofs.Parts.{clears_none}
 use Rattle.jl_clear.proofs.Claims.{claims_faults, claims_called, claims_lawful, claims_alone}

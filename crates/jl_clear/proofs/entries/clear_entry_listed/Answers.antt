@@ -1,11 +1,10 @@
-use Rattle.std.proofs.Common.{◌≡◌, ◌∙◌, ◌++◌, List, ◌∷◌, [], refl, sym, subst, inl, inr}
+use Rattle.std.proofs.Common.{◌≡◌, List, refl, subst, inl}
 use Rattle.jl_folder.specs.declared.listing.Name.{Name}
 use Rattle.jl_entry.specs.Names.{IsBelow}
 use Rattle.jl_claims.specs.Claims.{Anywhere}
-use Rattle.jl_store.specs.declared.clearing.Clear.TheVariants.{Cleared, Fault, NoMemory}
-use Rattle.jl_store.specs.Doing.{IsEntryName}
-use Rattle.jl_clear.specs.Taking.{IsCodeName, IsKeyName, IsNameOf, IsInside}
-use Rattle.jl_clear.specs.Clearing.{Clears, HasAll, HasCode, Handled, IsEmptied, ClearsPart}
+use Rattle.jl_clear.specs.declared.removing.Clear.TheVariants.{Cleared, Fault}
+use Rattle.jl_clear.specs.Taking.{IsEntryName}
+use Rattle.jl_clear.specs.Clearing.{Clears, HasAll, Handled, IsEmptied}
 use Rattle.jl_clear.proofs.Folders.{entry_names, entry_there, entry_place}
 use Rattle.jl_clear.proofs.Listings.{emptied}
 use Rattle.jl_clear.proofs.Parts.{clears_rest, clears_as, clears_undone}

@@ -1,10 +1,8 @@
-use Rattle.std.proofs.Common.{◌≡◌, ◌∙◌, ◌++◌, ◌∷◌, [], true, true≢false, sym, subst}
+use Rattle.std.proofs.Common.{◌≡◌, ◌∙◌, ◌∷◌, [], true, true≢false, sym, subst}
 use Rattle.jl_entry.specs.Names.{IsBelow, IsStoreName}
 use Rattle.jl_claims.specs.Claims.{Anywhere}
-use Rattle.jl_store.specs.declared.clearing.Clear.TheVariants.{Cleared, Fault, NoMemory}
-use Rattle.jl_store.specs.Doing.{IsEntryName}
-use Rattle.jl_store.specs.Checking.{IsFunctionFolder}
-use Rattle.jl_clear.specs.Taking.{IsCodeName, IsKeyName, IsNameOf, IsModuleFolder, IsEntryFolder, IsInside}
+use Rattle.jl_clear.specs.declared.removing.Clear.TheVariants.{Cleared, Fault, NoMemory}
+use Rattle.jl_clear.specs.Taking.{IsEntryName}
 use Rattle.jl_clear.specs.Clearing.{ClearsPart}
 use Rattle.jl_clear.proofs.Paths.{below_more}
 use Rattle.jl_clear.proofs.Folders.{entry_name}

@@ -1,11 +1,6 @@
-use Rattle.std.proofs.Common.{◌≡◌, ◌∙◌, ◌++◌, List, ◌∷◌, [], refl, sym, subst, inl, inr}
-use Rattle.jl_folder.specs.declared.listing.Name.{Name}
+use Rattle.std.proofs.Common.{◌≡◌, refl}
 use Rattle.jl_entry.specs.Names.{IsBelow}
-use Rattle.jl_claims.specs.Claims.{Anywhere}
-use Rattle.jl_store.specs.declared.clearing.Clear.TheVariants.{Cleared, Fault, NoMemory}
-use Rattle.jl_store.specs.Doing.{IsEntryName}
-use Rattle.jl_clear.specs.Taking.{IsCodeName, IsKeyName, IsNameOf, IsInside}
-use Rattle.jl_clear.specs.Clearing.{Clears, HasAll, HasCode, Handled, IsEmptied, ClearsPart}
+use Rattle.jl_clear.specs.declared.removing.Clear.TheVariants.{Cleared, Fault, NoMemory}
 use Rattle.jl_clear.proofs.Folders.{module_place, module_place_long}
 use Rattle.jl_clear.proofs.Listings.{clears_listed, clears_waits, clears_absent}
 use Rattle.jl_clear.proofs.modules.clear_module_folder.Goals as goal
@@ -18,7 +13,7 @@ returns-in-Names g c = λ root of.
 pub returns-in-NoDir : goal.returns-in-NoDir
 returns-in-NoDir g c = λ root of.
     let e = c.list.ensures in
-    clears_absent g.F.Folder.token g.F.Folder.told g.F.Folder.history g.F.Folder.opens g.F.Folder.faults root c.args.«module».now (Cleared ≡ Cleared) (Cleared ≡ Fault) c.args.folder.now c.list.new.self (module_place root c.args.«module».now of) (module_place_long root c.args.«module».now of) e.told e.token e.opens e.faults.later (λ f. cc) e.waits c.in-NoDir.ensures.names
+    clears_absent g.F.Folder.token g.F.Folder.told g.F.Folder.history g.F.Folder.opens g.F.Folder.faults root c.args.«module».now (IsBelow c.args.«module».now) (IsBelow c.args.«module».now) (Cleared ≡ Cleared) (Cleared ≡ Fault) c.args.folder.now c.list.new.self (λ p is. is) (module_place root c.args.«module».now of) (module_place_long root c.args.«module».now of) e.told e.token e.opens e.faults.later (λ f. cc) e.waits c.in-NoDir.ensures.names
 
 pub returns-in-Failed : goal.returns-in-Failed
 returns-in-Failed g c = λ root of.

@@ -1,10 +1,6 @@
 use Rattle.std.proofs.Common.{take}
-use Rattle.jl_text.specs.Paths.{PathView}
-use Rattle.jl_entry.specs.Names.{IsBelow}
 use Rattle.jl_claims.specs.Claims.{Anywhere}
-use Rattle.jl_store.specs.Doing.{IsEntryName}
-use Rattle.jl_store.specs.Checking.{IsFunctionFolder}
-use Rattle.jl_clear.specs.Taking.{IsCodeName, IsKeyName, IsNameOf, IsModuleFolder, IsEntryFolder, IsInside}
+use Rattle.jl_clear.specs.Taking.{IsNameOf, IsInside}
 use Rattle.jl_clear.specs.Clearing.{Clears, Handled}
 use Rattle.jl_clear.proofs.modules.clear_module_names.Given as goal
 

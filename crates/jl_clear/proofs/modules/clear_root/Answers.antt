@@ -1,14 +1,9 @@
-use Rattle.std.proofs.Common.{◌≡◌, ◌∙◌, ◌++◌, List, ◌∷◌, [], refl, sym, subst, inl, inr}
+use Rattle.std.proofs.Common.{◌≡◌, List, refl, subst}
 use Rattle.jl_folder.specs.declared.listing.Name.{Name}
-use Rattle.jl_entry.specs.Names.{IsBelow}
 use Rattle.jl_claims.specs.Claims.{Anywhere}
-use Rattle.jl_store.specs.declared.clearing.Clear.TheVariants.{Cleared, Fault, NoMemory}
-use Rattle.jl_store.specs.Doing.{IsEntryName}
-use Rattle.jl_clear.specs.Taking.{IsCodeName, IsKeyName, IsNameOf, IsInside}
-use Rattle.jl_clear.specs.Clearing.{Clears, HasAll, HasCode, Handled, IsEmptied, ClearsPart}
-use Rattle.jl_folder.specs.Listing.{Stands}
-use Rattle.jl_clear.proofs.Folders.{root_names, name_there}
-use Rattle.jl_clear.proofs.Paths.{here_or_inside}
+use Rattle.jl_clear.specs.declared.removing.Clear.TheVariants.{Cleared, Fault, NoMemory}
+use Rattle.jl_clear.specs.Taking.{IsNameOf, IsInside}
+use Rattle.jl_clear.specs.Clearing.{Clears, Handled}
 use Rattle.jl_clear.proofs.Listings.{clears_listed, clears_waits, clears_no_root, clears_root_names}
 use Rattle.jl_clear.proofs.modules.clear_root.Goals as goal
 

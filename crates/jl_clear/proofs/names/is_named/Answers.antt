@@ -1,9 +1,6 @@
-use Rattle.std.proofs.Common.{◌≡◌, ◌⊎◌, inl, inr, ◌∙◌, ◌++◌, [], ℕ, List, Some, None, true≢false, sym, ap, append-nil}
-use Rattle.std.proofs.lemmas.List.{append_cancel_left}
+use Rattle.std.proofs.Common.{Some, None, true≢false, sym}
 use Rattle.std.proofs.lemmas.Slice.Eq.{strip_prefix_is}
 use Rattle.std.proofs.lemmas.Bool.Decides.{Decides-eqb}
-use Rattle.jl_entry.specs.Names.{suffix}
-use Rattle.jl_clear.specs.Taking.{IsNamed}
 use Rattle.jl_clear.proofs.NameLemmas.{named_rest, rest_named, named_front}
 use Rattle.jl_clear.proofs.names.is_named.Goals as goal
 

@@ -1,8 +1,8 @@
-use Rattle.std.proofs.Common.{◌≡◌, [], ◌∷◌, Some, None, true≢false, refl, sym}
+use Rattle.std.proofs.Common.{[], ◌∷◌, Some, None, true≢false, refl, sym}
 use Rattle.std.proofs.lemmas.Slice.Eq.{strip_prefix_is}
 use Rattle.std.proofs.lemmas.Bool.Decides.{Decides-eqb}
 use Rattle.jl_entry.specs.Names.{suffix}
-use Rattle.jl_store.proofs.NameTests.{suffix_is}
+use Rattle.jl_clear.proofs.NameLemmas.{suffix_is}
 use Rattle.jl_clear.proofs.names.is_suffix.Goals as goal
 
 pub returns-in-Some : goal.returns-in-Some

@@ -1,11 +1,9 @@
 use Rattle.std.proofs.Common.{◌≡◌, ◌+◌, ◌∙◌, ◌++◌, ℕ, List, ◌∷◌, [], take, refl, sym, ap, subst, arith, sum_by, get_or, length, ◌<◌, ◌≤◌, inl, inr, add-one}
-use Rattle.jl_evict.specs.declared.measure.Measure.{Measure}
-use Rattle.jl_evict.specs.declared.measure.Measure.TheVariants.{Number, Fault, NoMemory}
-use Rattle.jl_evict.specs.Walks.{Tells, IsMeasured, IsMeasureFault, measure_of, IsAccessOf, Sized, Summed, Accessed}
+use Rattle.jl_evict.specs.declared.measure.Measure.TheVariants.{Number}
+use Rattle.jl_evict.specs.Walks.{IsMeasured, IsMeasureFault, Sized, Summed}
 use Rattle.std.proofs.lemmas.List.{take_all}
 use Rattle.std.proofs.lemmas.List.Sums.{sum_by_more}
 use Rattle.jl_folder.specs.declared.listing.Name.{Name}
-use Rattle.jl_folder.specs.State.{State}
 use Rattle.jl_claims.specs.Claims.{Anywhere}
 use Rattle.jl_evict.specs.Items.{held, size_at}
 use Rattle.jl_evict.proofs.TellLemmas.{tells_none, tells_as, tells_then, tells_stop}

@@ -1,7 +1,6 @@
 use Rattle.std.proofs.Common.{◌≡◌, ◌+◌, ◌∙◌, ◌++◌, ℕ, List, ◌∷◌, [], take, refl, sym, ap, subst, arith, inl, inr, add-one}
 use Rattle.jl_evict.specs.declared.measure.Measure.{Measure}
-use Rattle.jl_evict.specs.declared.measure.Measure.TheVariants.{Number, Fault, NoMemory}
-use Rattle.jl_evict.specs.Walks.{Tells, IsMeasured, IsMeasureFault, measure_of, IsAccessOf, Sized, Summed, Accessed}
+use Rattle.jl_evict.specs.Walks.{Tells, IsMeasured, IsMeasureFault, measure_of, Sized}
 use Rattle.jl_folder.specs.Calls.{SizesFile}
 use Rattle.jl_claims.specs.Claims.{Anywhere}
 use Rattle.jl_evict.proofs.TellLemmas.{tells_call}

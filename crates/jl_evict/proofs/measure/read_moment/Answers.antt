@@ -1,12 +1,10 @@
 use Rattle.std.proofs.Common.{◌≡◌, ◌+◌, ◌∙◌, ◌++◌, ℕ, List, ◌∷◌, [], take, false, refl, sym, ap, subst, arith, inl, inr, add-one}
-use Rattle.jl_evict.specs.declared.measure.Measure.{Measure}
 use Rattle.jl_evict.specs.declared.measure.Measure.TheVariants.{Number, Fault, NoMemory}
-use Rattle.jl_evict.specs.Walks.{Tells, IsMeasured, IsMeasureFault, measure_of, IsAccessOf, Sized, Summed, Accessed}
+use Rattle.jl_evict.specs.Walks.{IsMeasured, IsMeasureFault, Accessed}
 use Rattle.jl_folder.specs.State.{now, since, is_file}
 use Rattle.jl_folder.specs.Reading.{ReadsNamed}
 use Rattle.jl_claims.specs.Claims.{Anywhere}
 use Rattle.jl_clear.proofs.Listings.{at_some}
-use Rattle.jl_evict.specs.Items.{HasAccess}
 use Rattle.jl_evict.proofs.TellLemmas.{tells_waits}
 use Rattle.jl_evict.proofs.MeasureLemmas.{accessed_read, accessed_none}
 use Rattle.jl_evict.proofs.measure.read_moment.Goals as goal

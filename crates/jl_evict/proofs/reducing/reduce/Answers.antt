@@ -2,7 +2,6 @@ use Rattle.std.proofs.Common.{◌≡◌, List, take, subst, sym}
 use Rattle.jl_claims.specs.Claims.{Anywhere}
 use Rattle.jl_clear.specs.Clearing.{Clears}
 use Rattle.jl_evict.specs.declared.item.Item.{Item}
-use Rattle.jl_evict.specs.declared.reducing.Reduced.{Reduced}
 use Rattle.jl_evict.specs.declared.reducing.Reduced.TheVariants as reduced
 use Rattle.jl_evict.specs.Reducing.{ArePaths, Chosen, IsReport, IsReportOf}
 use Rattle.jl_evict.proofs.ReduceLemmas.{paths_chosen}

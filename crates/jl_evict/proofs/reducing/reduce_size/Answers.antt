@@ -4,7 +4,6 @@ use Rattle.jl_entry.specs.Names.{root_of}
 use Rattle.jl_claims.specs.Claims.{Anywhere}
 use Rattle.jl_clear.proofs.Parts.{clears_none}
 use Rattle.jl_clear.proofs.Claims.{claims_faults, claims_called, claims_lawful}
-use Rattle.jl_evict.specs.declared.reducing.Reduced.{Reduced}
 use Rattle.jl_evict.specs.declared.reducing.Reduced.TheVariants as reduced
 use Rattle.jl_evict.specs.Reducing.{IsOfEntry, Reduces}
 use Rattle.jl_evict.proofs.ReduceLemmas.{untaken, taken, taken_reports, taken_alone}

@@ -1,8 +1,7 @@
 use Rattle.std.proofs.Common.{◌≡◌, inl, refl, length}
 use Rattle.jl_claims.specs.Claims.{Anywhere}
-use Rattle.jl_store.specs.declared.clearing.Clear.TheVariants.{Cleared, Fault, NoMemory}
+use Rattle.jl_clear.specs.declared.removing.Clear.TheVariants.{Cleared, Fault, NoMemory}
 use Rattle.jl_clear.proofs.Parts.{clears_as}
-use Rattle.jl_evict.specs.declared.reducing.Reduced.{Reduced}
 use Rattle.jl_evict.specs.declared.reducing.Reduced.TheVariants as reduced
 use Rattle.jl_evict.specs.Reducing.{Chosen}
 use Rattle.jl_evict.proofs.reducing.report.Goals as goal

@@ -1,14 +1,9 @@
 use Rattle.std.proofs.Common.{◌≡◌, ◌+◌, ◌∙◌, ◌++◌, ℕ, List, ◌∷◌, [], take, refl, sym, ap, subst, arith, length, ◌<◌, inl, inr, add-one}
 use Rattle.jl_folder.specs.declared.listing.Name.{Name}
-use Rattle.jl_text.specs.Paths.{PathView}
-use Rattle.jl_entry.specs.Names.{IsBelow, below}
+use Rattle.jl_entry.specs.Names.{IsBelow}
 use Rattle.jl_claims.specs.Claims.{Anywhere}
-use Rattle.jl_clear.specs.Taking.{IsNameOf, IsKeyName}
-use Rattle.jl_evict.specs.declared.walk.Walk.{Walk}
 use Rattle.jl_evict.specs.declared.walk.Walk.TheVariants as walk
-use Rattle.jl_evict.specs.Walks.{Tells, Adds, Pushes, IsAt, IsSizedEntry, Listing, Under, AreDistinct, IsRootParts, IsModuleParts, IsFunctionParts, IsMeasured, IsMeasureFault, Accessed, Summed}
-use Rattle.jl_evict.specs.Items.{IsEntryParts}
-use Rattle.jl_folder.specs.State.{State, IsState}
+use Rattle.jl_evict.specs.Walks.{Adds, Listing, Under, AreDistinct}
 use Rattle.jl_clear.proofs.Folders.{key_there}
 use Rattle.jl_evict.proofs.TellLemmas.{tells_waits}
 use Rattle.jl_evict.proofs.WalkLemmas.{adds_as, adds_listed, adds_absent, adds_failed, behind, under_all, under_below, in_function}

@@ -1,13 +1,10 @@
 use Rattle.std.proofs.Common.{◌≡◌, ◌+◌, ◌∙◌, ◌++◌, ℕ, List, ◌∷◌, [], take, refl, sym, ap, subst, arith, true, true≢false, inl, inr, add-one}
-use Rattle.jl_folder.specs.declared.listing.Name.{Name}
 use Rattle.jl_text.specs.Paths.{PathView}
-use Rattle.jl_entry.specs.Names.{IsBelow, below}
+use Rattle.jl_entry.specs.Names.{IsBelow}
 use Rattle.jl_claims.specs.Claims.{Anywhere}
-use Rattle.jl_clear.specs.Taking.{IsNameOf, IsKeyName}
-use Rattle.jl_evict.specs.declared.walk.Walk.{Walk}
+use Rattle.jl_clear.specs.Taking.{IsNameOf}
 use Rattle.jl_evict.specs.declared.walk.Walk.TheVariants as walk
-use Rattle.jl_evict.specs.Walks.{Tells, Adds, Pushes, IsAt, IsSizedEntry, Listing, Under, AreDistinct, IsRootParts, IsModuleParts, IsFunctionParts, IsMeasured, IsMeasureFault, Accessed, Summed}
-use Rattle.jl_evict.specs.Items.{IsEntryParts}
+use Rattle.jl_evict.specs.Walks.{Adds}
 use Rattle.jl_evict.proofs.WalkLemmas.{adds_none, in_module, at_function, part_split}
 use Rattle.jl_evict.proofs.walk.add_function_name.Goals as goal
 

@@ -1,13 +1,8 @@
 use Rattle.std.proofs.Common.{◌≡◌, ◌+◌, ◌∙◌, ◌++◌, ℕ, List, ◌∷◌, [], take, true, refl, sym, ap, subst, arith, inl, inr, add-one}
-use Rattle.jl_folder.specs.declared.listing.Name.{Name}
-use Rattle.jl_text.specs.Paths.{PathView}
-use Rattle.jl_entry.specs.Names.{IsBelow, below}
+use Rattle.jl_entry.specs.Names.{IsBelow}
 use Rattle.jl_claims.specs.Claims.{Anywhere}
-use Rattle.jl_clear.specs.Taking.{IsNameOf, IsKeyName}
-use Rattle.jl_evict.specs.declared.walk.Walk.{Walk}
 use Rattle.jl_evict.specs.declared.walk.Walk.TheVariants as walk
-use Rattle.jl_evict.specs.Walks.{Tells, Adds, Pushes, IsAt, IsSizedEntry, Listing, Under, AreDistinct, IsRootParts, IsModuleParts, IsFunctionParts, IsMeasured, IsMeasureFault, Accessed, Summed}
-use Rattle.jl_evict.specs.Items.{IsEntryParts}
+use Rattle.jl_evict.specs.Walks.{IsSizedEntry, Listing, IsMeasured, IsMeasureFault, Summed}
 use Rattle.jl_evict.specs.declared.measure.Measure.TheVariants as measure
 use Rattle.jl_folder.specs.State.{State, is_folder}
 use Rattle.jl_clear.proofs.Listings.{at_some}

@@ -1,17 +1,10 @@
 use Rattle.std.proofs.Common.{◌≡◌, ◌+◌, ◌∙◌, ◌++◌, ℕ, List, ◌∷◌, [], take, refl, sym, ap, subst, arith, inl, inr, add-one}
-use Rattle.jl_folder.specs.declared.listing.Name.{Name}
-use Rattle.jl_text.specs.Paths.{PathView}
-use Rattle.jl_entry.specs.Names.{IsBelow, below}
+use Rattle.jl_entry.specs.Names.{IsBelow, entry_part}
 use Rattle.jl_claims.specs.Claims.{Anywhere}
-use Rattle.jl_clear.specs.Taking.{IsNameOf, IsKeyName}
-use Rattle.jl_evict.specs.declared.walk.Walk.{Walk}
 use Rattle.jl_evict.specs.declared.walk.Walk.TheVariants as walk
-use Rattle.jl_evict.specs.Walks.{Tells, Adds, Pushes, IsAt, IsSizedEntry, Listing, Under, AreDistinct, IsRootParts, IsModuleParts, IsFunctionParts, IsMeasured, IsMeasureFault, Accessed, Summed}
-use Rattle.jl_evict.specs.Items.{IsEntryParts}
+use Rattle.jl_evict.specs.Walks.{IsSizedEntry, IsMeasured, IsMeasureFault, Accessed}
 use Rattle.jl_evict.specs.declared.measure.Measure.TheVariants as measure
-use Rattle.jl_entry.specs.Names.{entry_part}
 use Rattle.jl_entry.specs.declared.names.EntryFile.TheVariants.{Access}
-use Rattle.jl_evict.specs.Items.{HasAccess}
 use Rattle.jl_evict.proofs.WalkLemmas.{adds_sized, adds_failed}
 use Rattle.jl_evict.proofs.walk.add_sized.Goals as goal
 

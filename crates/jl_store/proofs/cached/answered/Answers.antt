@@ -9,6 +9,7 @@ use Rattle.jl_claims.specs.Steps.{IsLone}
 use Rattle.jl_claims.specs.Touches.{TouchedByOther}
 use Rattle.jl_claims.proofs.Alone.{lone_parts, waits_alone}
 use Rattle.jl_claims.proofs.Composed.{goes_waits}
+use Rattle.jl_clear.proofs.DoingLemmas.{rose_later, later_rose}
 use Rattle.jl_store.specs.Trust.{IsTrusted}
 use Rattle.jl_store.specs.Publishing.{IsPublished}
 use Rattle.jl_store.specs.Keeping.{IsReadyToKeep, IsReadyToTouch, entry_in, last_of, temp_of}
@@ -21,7 +22,6 @@ use Rattle.jl_store.proofs.Answering.{found_answer, found_count, missed_answer, 
 use Rattle.jl_store.proofs.Lawfully.{lawful_waits, lawful_then, lawful_at, lawful_goes, trusted_front}
 use Rattle.jl_store.proofs.Causing.{warns_none, warns_then, orderly_sooner}
 use Rattle.jl_store.proofs.Coming.{found_comes, missed_comes, found_tidy, missed_tidy}
-use Rattle.jl_store.proofs.DoingLemmas.{rose_later, later_rose}
 use Rattle.jl_store.proofs.PartWarnings.{look_warns}
 use Rattle.jl_store.proofs.Readiness.{waits_silent, found_home, missed_home}
 use Rattle.jl_store.proofs.LoneCalls.{LeavesAnswer, look_alone, look_hit, look_miss, stands_in, found_leaves, memory_leaves}

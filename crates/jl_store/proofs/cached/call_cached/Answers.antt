@@ -9,6 +9,7 @@ use Rattle.jl_claims.specs.Touches.{TouchedByOther}
 use Rattle.jl_claims.proofs.Touched.{touched_as}
 use Rattle.jl_claims.proofs.Alone.{lone_parts}
 use Rattle.jl_laws.proofs.Before.{one_value, some_of}
+use Rattle.jl_clear.proofs.DoingLemmas.{rose_later, later_rose}
 use Rattle.jl_store.specs.Cached.{IsAnswer, ComesBy, ComesTidy}
 use Rattle.jl_store.specs.Trust.{IsTrusted}
 use Rattle.jl_store.specs.Checking.{UsesCode, function_path, code_path, code_temp}
@@ -22,7 +23,6 @@ use Rattle.jl_store.proofs.Causing.{no_warnings, warns_then, warns_whole, orderl
 use Rattle.jl_store.proofs.Coming.{comes_later, tidy_later}
 use Rattle.jl_store.proofs.PartWarnings.{check_warned}
 use Rattle.jl_store.proofs.Readiness.{checked_home, code_uses}
-use Rattle.jl_store.proofs.DoingLemmas.{rose_later, later_rose}
 use Rattle.jl_store.proofs.LoneMoves.{lone_untouched}
 use Rattle.jl_store.proofs.LoneCalls.{LeavesAnswer, lone_orderly, tidy_after, after_check, leaves_next, lone_warns, nothing_next}
 use Rattle.jl_store.proofs.cached.call_cached.Goals as goal

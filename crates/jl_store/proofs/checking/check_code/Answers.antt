@@ -6,12 +6,12 @@ use Rattle.jl_entry.specs.Codes.{code_text}
 use Rattle.jl_entry.specs.Names.{code_of, IsTemp, root_of}
 use Rattle.jl_entry.proofs.NameFacts.{final_not_temp}
 use Rattle.jl_claims.specs.Claims.{Called, Anywhere}
-use Rattle.jl_claims.proofs.Composed.{not_called}
+use Rattle.jl_claims.proofs.Composed.{not_called, goes_waits}
 use Rattle.jl_laws.specs.Proper.{IsProper}
 use Rattle.jl_laws.specs.Tidy.{IsTidy}
+use Rattle.jl_clear.proofs.DoingLemmas.{rose_later, later_rose}
 use Rattle.jl_store.specs.Kinds.{PutsThis}
 use Rattle.jl_store.specs.declared.checks.CodeCheck.{CodeCheck}
-use Rattle.jl_store.proofs.DoingLemmas.{rose_later, later_rose}
 use Rattle.jl_store.specs.Checking.{Comes, UsesCode, MovesFor, IsChecking, function_path, code_path, code_temp}
 use Rattle.jl_store.proofs.StorePaths.{code_whole}
 use Rattle.jl_store.proofs.CheckLemmas.{check_called, check_checks, lawful_code}
@@ -22,7 +22,6 @@ use Rattle.jl_claims.specs.Touches.{TouchedByOther}
 use Rattle.jl_store.proofs.SkipCauses.{skips_held}
 use Rattle.jl_claims.specs.Steps.{IsLone}
 use Rattle.jl_claims.proofs.Alone.{lone_parts, waits_alone}
-use Rattle.jl_claims.proofs.Composed.{goes_waits}
 use Rattle.jl_store.specs.Alone.{LeavesCode}
 use Rattle.jl_store.proofs.CodeAlone.{lone_owed, check_alone}
 use Rattle.jl_store.proofs.LoneMoves.{lone_untouched}
@@ -51,8 +50,11 @@ returns-in_default-write_code-clause-lawful g c = λ t answer.
     (record { formed = (c.requires.module_name, c.requires.function_name); is = refl }) c.args.memory.now.token (code_text c.args.code.now c.args.line) _ (g.F.Folder.history c.args.folder.now) (g.F.Folder.history c.args.folder.now)
     (none_called (root_of c.args.memory.now.location) c.args.memory.now.module c.args.name.now c.args.memory.now.token (code_text c.args.code.now c.args.line) (g.F.Folder.history c.args.folder.now)) answer
 
-pub follow-requires : goal.follow-requires
-follow-requires g c = λ e.
+pub follow-requires-clause-of_function : goal.follow-requires-clause-of_function
+follow-requires-clause-of_function g c = (root_of c.args.memory.now.location, (c.args.memory.now.module, c.args.name.now, c.requires.module_name, c.requires.function_name, c.in-Ok.ensures.0))
+
+pub follow-requires-clause-apart : goal.follow-requires-clause-apart
+follow-requires-clause-apart g c = λ e.
     final_not_temp (root_of c.args.memory.now.location) (code_of c.args.memory.now.module c.args.name.now) (code_of c.args.memory.now.module c.args.name.now) c.args.memory.now.token _ c.in-Ok.ensures.1
     (subst (λ (p : PathView). IsTemp (root_of c.args.memory.now.location) (code_of c.args.memory.now.module c.args.name.now) c.args.memory.now.token p) e c.in-Ok.ensures.2)
 

@@ -1,5 +1,5 @@
 use Rattle.std.proofs.Common.{◌∙◌, sym}
-use Rattle.jl_store.proofs.NamePlaces.{temp_no_folder, final_no_folder}
+use Rattle.jl_clear.proofs.Folders.{temp_no_folder, final_no_folder}
 use Rattle.jl_store.proofs.SkipCauses.{check_skipped}
 use Rattle.jl_store.proofs.CodeAlone.{done_published}
 use Rattle.jl_store.proofs.checking.store.Goals as goal

@@ -5,11 +5,11 @@ use Rattle.jl_claims.proofs.Alone.{lone_parts}
 use Rattle.jl_entry.specs.Names.{code_of, IsTemp}
 use Rattle.jl_claims.specs.Touches.{TouchedByOther}
 use Rattle.jl_claims.proofs.Touched.{touched_as}
+use Rattle.jl_clear.proofs.DoingLemmas.{goes_does}
 use Rattle.jl_store.specs.Kinds.{UsesNames}
 use Rattle.jl_store.specs.Storing.{FoldersOr}
 use Rattle.jl_store.specs.Checking.{UsesCode, IsDone}
 use Rattle.jl_store.specs.declared.folders.MadeFolders.{MadeFolders}
-use Rattle.jl_store.proofs.DoingLemmas.{goes_does}
 use Rattle.jl_store.proofs.SkipCauses.{skips_then, folders_used, steps_first}
 use Rattle.jl_store.specs.Doing.{IsPrefix, IsMaking}
 use Rattle.jl_store.proofs.StorePaths.{making_puts}

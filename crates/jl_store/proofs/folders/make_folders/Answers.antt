@@ -1,9 +1,10 @@
 use Rattle.std.proofs.Common.{◌+◌, ap, subst, take, length, arith}
 use Rattle.jl_text.specs.Paths.{PathView}
-use Rattle.jl_store.specs.Doing.{Does, IsMaking}
-use Rattle.jl_store.proofs.DoingLemmas.{does_none, does_then, does_as, goes_does, later_rose}
+use Rattle.jl_clear.specs.Doing.{Does}
+use Rattle.jl_clear.proofs.DoingLemmas.{does_none, does_then, does_as, goes_does, later_rose}
+use Rattle.jl_store.specs.Doing.{IsMaking}
 use Rattle.jl_store.proofs.StoringLemmas.{making_prefix}
-use Rattle.jl_store.proofs.Emptied.{making_proper, has_folders}
+use Rattle.jl_store.proofs.MadeFolders.{making_proper, has_folders}
 use Rattle.jl_store.proofs.LoneMoves.{part_proper}
 use Rattle.jl_store.proofs.FolderCauses.{there_first, there_next, there_skipped, there_last, step_as, ended_early}
 use Rattle.jl_store.proofs.folders.make_folders.Goals as goal

@@ -1,5 +1,6 @@
 use Rattle.jl_text.specs.Paths.{PathView}
-use Rattle.jl_store.specs.Doing.{Does, IsMaking}
+use Rattle.jl_clear.specs.Doing.{Does}
+use Rattle.jl_store.specs.Doing.{IsMaking}
 use Rattle.jl_store.proofs.FolderCauses.{IsThere}
 use Rattle.jl_store.proofs.folders.make_folders.Given as goal
 

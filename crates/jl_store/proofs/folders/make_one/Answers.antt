@@ -1,6 +1,6 @@
 use Rattle.std.proofs.Common.{◌∙◌, sym, subst}
+use Rattle.jl_clear.proofs.DoingLemmas.{does_call}
 use Rattle.jl_store.specs.Doing.{IsMaking}
-use Rattle.jl_store.proofs.DoingLemmas.{does_call}
 use Rattle.jl_store.proofs.StoringLemmas.{make_kinds, makes_itself, folders_fault}
 use Rattle.jl_store.specs.Storing.{StepOr}
 use Rattle.jl_store.specs.declared.folders.MadeFolders.{MadeFolders}

@@ -1,5 +1,5 @@
+use Rattle.jl_clear.proofs.DoingLemmas.{does_none}
 use Rattle.jl_store.specs.Doing.{IsMaking}
-use Rattle.jl_store.proofs.DoingLemmas.{does_none}
 use Rattle.std.proofs.Common.{◌∙◌, sym}
 use Rattle.jl_store.proofs.FolderCauses.{fixed_there}
 use Rattle.jl_store.proofs.folders.make_step.Goals as goal

@@ -9,7 +9,7 @@ use Rattle.jl_claims.specs.Claims.{GoesOn, Called, Anywhere}
 use Rattle.jl_claims.proofs.Traces.{OwnMoves-append, OwnMoves-weaken, foreign_own}
 use Rattle.jl_claims.proofs.Since.{Went, since_went, went_none, went_on}
 use Rattle.jl_claims.proofs.Composed.{went_call, went_waits}
-use Rattle.jl_store.specs.Doing.{Moves, Does}
+use Rattle.jl_clear.specs.Doing.{Moves, Does}
 
 pub rose_later : (a b c : ℕ) → Rose a b → b ≤ c → Rose a c
 rose_later a b c r le = omega (arith, r, le)
