@@ -16,7 +16,7 @@ ghost use Rattle.jl_cmd.specs.Output.{call_output};
 ghost use Rattle.jl_cmd.specs.Texts.{warning_lines};
 ghost use Rattle.jl_cmd.specs.Endings.{CommandEnds, scene, tells, status_of};
 ghost use Rattle.jl_cmd.specs.Promises.{IsUncalled};
-ghost use Rattle.jl_cmd.specs.Calling.{AreOfCall, LeavesRead, EndedAt, course, memory_at};
+ghost use Rattle.jl_cmd.specs.Calling.{AreOfCall, LeavesRead, EndedAt, course_of, memory_at};
 ghost use Rattle.jl_cmd.specs.Run.{Writes, WritesWarned, Counts, Calls};
 
 use crate::compute::compute;
@@ -99,8 +99,10 @@ fn written<O: Sink>(
     computed: Computed,
     warnings: &[Warning],
 ) -> Warned
-    ensures writes { WritesWarned computed result.ended (O.told out.old) (O.faults out.old) (O.faults out.new) (O.written out.old) (O.written out.new) }
-    ensures lines { (result.lines ≡ warning_lines memory.now.«module» warnings.now) ⊎ ((result.lines ≡ []) × (result.ended ≡ Ended.NoMemory)) }
+    ensures writes { WritesWarned computed result.ended
+        (O.told out.old) (O.faults out.old) (O.faults out.new) (O.written out.old) (O.written out.new) }
+    ensures lines { (result.lines ≡ warning_lines memory.now.«module» warnings.now)
+        ⊎ ((result.lines ≡ []) × (result.ended ≡ Ended.NoMemory)) }
     ensures calls { (old new : ℕ) → Counts computed old new → Calls result.ended old new }
     ensures told { O.told out.old → O.told out.new }
     ensures later { O.faults out.old ≤ O.faults out.new }
@@ -129,16 +131,26 @@ pub fn call<L: Library, F: Folder, O: Sink, H: Host>(
     requires token { H.token host.old ≡ F.token folder.old }
     requires file { IsSome (module_name_of file.now) }
     ensures ends { (i i' : ℕ) → CommandEnds (λ m. call_output L.code L.fault L.answer m name.now args.now) (Some file.now)
-        (tells (F.told folder.old) (O.told out.old) (IsTrusted (root_of location.now) L.answer (F.told folder.old) (F.history folder.old) (F.history folder.new)))
-        (scene (F.history folder.old) (F.history folder.new) (F.faults folder.old) (F.faults folder.new) (O.written out.old) (O.written out.new) (O.faults out.old) (O.faults out.new) i i') result.ended }
+        (tells (F.told folder.old) (O.told out.old)
+        (IsTrusted (root_of location.now) L.answer (F.told folder.old) (F.history folder.old) (F.history folder.new)))
+        (scene (F.history folder.old) (F.history folder.new) (F.faults folder.old) (F.faults folder.new)
+        (O.written out.old) (O.written out.new) (O.faults out.old) (O.faults out.new) i i')
+        result.ended }
     ensures lines { (m : List ℕ) → module_name_of file.now ≡ Some m → (ws : List Warning) × (result.lines ≡ warning_lines m ws)
-        × AreOfCall (course L.code L.line (F.told folder.old) (F.token folder.old) (F.history folder.old) (F.history folder.new) (F.faults folder.old) (F.faults folder.new)) file.now (memory_at location.now m (F.token folder.old)) name.now args.now ws }
-    ensures alone { F.told folder.old → (m : List ℕ) → module_name_of file.now ≡ Some m → IsLone (F.token folder.old) (since (F.history folder.old) (F.history folder.new)) → IsSound (root_of location.now) L.answer (now (F.history folder.old)) → (Rose (F.faults folder.old) (F.faults folder.new) → ⊥)
-        → EndedAt result.ended (LeavesRead (course L.code L.line (F.told folder.old) (F.token folder.old) (F.history folder.old) (F.history folder.new) (F.faults folder.old) (F.faults folder.new)) L.answer file.now (memory_at location.now m (F.token folder.old)) name.now args.now (H.told host.old) (H.moments host.old) (L.calls lib.old) (L.calls lib.new)) }
+        × AreOfCall (course_of L.code L.line F.told F.token F.history F.faults folder.old folder.new)
+        file.now (memory_at location.now m (F.token folder.old)) name.now args.now ws }
+    ensures alone { F.told folder.old → (m : List ℕ) → module_name_of file.now ≡ Some m
+        → IsLone (F.token folder.old) (since (F.history folder.old) (F.history folder.new))
+        → IsSound (root_of location.now) L.answer (now (F.history folder.old)) → (Rose (F.faults folder.old) (F.faults folder.new) → ⊥)
+        → EndedAt result.ended (LeavesRead (course_of L.code L.line F.told F.token F.history F.faults folder.old folder.new) L.answer
+        file.now (memory_at location.now m (F.token folder.old)) name.now args.now
+        (H.told host.old) (H.moments host.old) (L.calls lib.old) (L.calls lib.new)) }
     ensures calls { Calls result.ended (L.calls lib.old) (L.calls lib.new) }
-    ensures lawful { F.told folder.old → CallsFolder (IsLawful (root_of location.now) L.answer) (IsLawful (root_of location.now) L.answer) (F.token folder.old) AnyMove
+    ensures lawful { F.told folder.old
+        → CallsFolder (IsLawful (root_of location.now) L.answer) (IsLawful (root_of location.now) L.answer) (F.token folder.old) AnyMove
         (IsSound (root_of location.now) L.answer) (IsSound (root_of location.now) L.answer) (F.history folder.old) (F.history folder.new) }
-    ensures idle { F.told folder.old → IsUncalled (status_of result.ended) → OwnMoves (F.token folder.old) Silent (since (F.history folder.old) (F.history folder.new)) }
+    ensures idle { F.told folder.old → IsUncalled (status_of result.ended)
+        → OwnMoves (F.token folder.old) Silent (since (F.history folder.old) (F.history folder.new)) }
     ensures told { F.told folder.old → F.told folder.new }
     ensures token { F.token folder.new ≡ F.token folder.old }
     ensures opens { F.opens folder.new ≡ F.opens folder.old }

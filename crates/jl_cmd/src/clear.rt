@@ -31,11 +31,16 @@ fn cleared<F: Folder>(
     key: &Option<Key>,
 ) -> Clear
     requires target { IsTarget «module».now func.now key.now }
-    ensures called { F.told folder.old → CallsFolder (IsProper (root_of location.now)) (IsProper (root_of location.now)) (F.token folder.old)
-        (IsTaking (root_of location.now) (IsCleared location.now «module».now func.now key.now)) Anywhere Anywhere (F.history folder.old) (F.history folder.new) }
-    ensures lawful { F.told folder.old → (answer : Answers) → CallsFolder (IsLawful (root_of location.now) answer) (IsLawful (root_of location.now) answer) (F.token folder.old) AnyMove
+    ensures called { F.told folder.old
+        → CallsFolder (IsProper (root_of location.now)) (IsProper (root_of location.now)) (F.token folder.old)
+        (IsTaking (root_of location.now) (IsCleared location.now «module».now func.now key.now))
+        Anywhere Anywhere (F.history folder.old) (F.history folder.new) }
+    ensures lawful { F.told folder.old → (answer : Answers)
+        → CallsFolder (IsLawful (root_of location.now) answer) (IsLawful (root_of location.now) answer) (F.token folder.old) AnyMove
         (IsSound (root_of location.now) answer) (IsSound (root_of location.now) answer) (F.history folder.old) (F.history folder.new) }
-    ensures alone { F.told folder.old → result ≡ Clear.Cleared → IsLone (F.token folder.old) (since (F.history folder.old) (F.history folder.new)) → IsTidy (root_of location.now) (now (F.history folder.old))
+    ensures alone { F.told folder.old → result ≡ Clear.Cleared
+        → IsLone (F.token folder.old) (since (F.history folder.old) (F.history folder.new))
+        → IsTidy (root_of location.now) (now (F.history folder.old))
         → IsTakenAway (IsCleared location.now «module».now func.now key.now) (now (F.history folder.old)) (now (F.history folder.new)) }
     ensures told { F.told folder.old → F.told folder.new }
     ensures token { F.token folder.new ≡ F.token folder.old }
@@ -66,12 +71,17 @@ pub fn clear<F: Folder>(
     requires target { IsTarget «module».now func.now key.now }
     ensures ends { EndsClearing result (F.faults folder.old) (F.faults folder.new) }
     // Names of the store and its folders go, of these paths alone, whatever others do.
-    ensures called { F.told folder.old → CallsFolder (IsProper (root_of location.now)) (IsProper (root_of location.now)) (F.token folder.old)
-        (IsTaking (root_of location.now) (IsCleared location.now «module».now func.now key.now)) Anywhere Anywhere (F.history folder.old) (F.history folder.new) }
-    ensures lawful { F.told folder.old → (answer : Answers) → CallsFolder (IsLawful (root_of location.now) answer) (IsLawful (root_of location.now) answer) (F.token folder.old) AnyMove
+    ensures called { F.told folder.old
+        → CallsFolder (IsProper (root_of location.now)) (IsProper (root_of location.now)) (F.token folder.old)
+        (IsTaking (root_of location.now) (IsCleared location.now «module».now func.now key.now))
+        Anywhere Anywhere (F.history folder.old) (F.history folder.new) }
+    ensures lawful { F.told folder.old → (answer : Answers)
+        → CallsFolder (IsLawful (root_of location.now) answer) (IsLawful (root_of location.now) answer) (F.token folder.old) AnyMove
         (IsSound (root_of location.now) answer) (IsSound (root_of location.now) answer) (F.history folder.old) (F.history folder.new) }
     // Alone and done, these paths are gone, and nothing else.
-    ensures alone { F.told folder.old → result ≡ Done → IsLone (F.token folder.old) (since (F.history folder.old) (F.history folder.new)) → IsTidy (root_of location.now) (now (F.history folder.old))
+    ensures alone { F.told folder.old → result ≡ Done
+        → IsLone (F.token folder.old) (since (F.history folder.old) (F.history folder.new))
+        → IsTidy (root_of location.now) (now (F.history folder.old))
         → IsTakenAway (IsCleared location.now «module».now func.now key.now) (now (F.history folder.old)) (now (F.history folder.new)) }
     ensures told { F.told folder.old → F.told folder.new }
     ensures token { F.token folder.new ≡ F.token folder.old }

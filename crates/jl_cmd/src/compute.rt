@@ -49,16 +49,25 @@ fn answered<L: Library, F: Folder, H: Host>(
     requires proper { IsProperTree (args_tree args.now) }
     requires depth { nesting (args_tree args.now) ≤ 64 }
     requires size { length (text_of (args_tree args.now)) ≤ 1048576 }
-    ensures lawful { F.told folder.old → CallsFolder (IsLawful (root_of memory.now.location) L.answer) (IsLawful (root_of memory.now.location) L.answer) (F.token folder.old) AnyMove
-        (IsSound (root_of memory.now.location) L.answer) (IsSound (root_of memory.now.location) L.answer) (F.history folder.old) (F.history folder.new) }
+    ensures lawful { F.told folder.old
+        → CallsFolder (IsLawful (root_of memory.now.location) L.answer) (IsLawful (root_of memory.now.location) L.answer)
+        (F.token folder.old) AnyMove (IsSound (root_of memory.now.location) L.answer) (IsSound (root_of memory.now.location) L.answer)
+        (F.history folder.old) (F.history folder.new) }
     ensures computes { (c : List ℕ) → L.code (L.loaded lib.old) name.now ≡ Some c
-        → Computes (answers (L.answer c args.now)) (IsTrusted (root_of memory.now.location) L.answer (F.told folder.old) (F.history folder.old) (F.history folder.new)) result }
+        → Computes (answers (L.answer c args.now))
+        (IsTrusted (root_of memory.now.location) L.answer (F.told folder.old) (F.history folder.old) (F.history folder.new)) result }
     ensures calls { Counts result (L.calls lib.old) (L.calls lib.new) }
     ensures warns { (c : List ℕ) (n : ℕ) → L.code (L.loaded lib.old) name.now ≡ Some c → L.line (L.loaded lib.old) name.now ≡ n
-        → Warns warnings.old.items warnings.new.items (asked memory.now name.now c n args.now) (F.told folder.old) (F.faults folder.old) (F.faults folder.new) (F.history folder.old) (F.history folder.new) }
-    ensures alone { F.told folder.old → (c : List ℕ) (n : ℕ) → L.code (L.loaded lib.old) name.now ≡ Some c → L.line (L.loaded lib.old) name.now ≡ n
-        → IsLone (F.token folder.old) (since (F.history folder.old) (F.history folder.new)) → IsSound (root_of memory.now.location) L.answer (now (F.history folder.old)) → (Rose (F.faults folder.old) (F.faults folder.new) → ⊥)
-        → ComputedAt result (LeavesAsked (asked memory.now name.now c n args.now) L.answer (now (F.history folder.old)) (now (F.history folder.new)) (H.told host.old) (H.moments host.old) (L.calls lib.old) (L.calls lib.new)) }
+        → Warns warnings.old.items warnings.new.items (asked memory.now name.now c n args.now)
+        (F.told folder.old) (F.faults folder.old) (F.faults folder.new) (F.history folder.old) (F.history folder.new) }
+    ensures alone { F.told folder.old → (c : List ℕ) (n : ℕ) → L.code (L.loaded lib.old) name.now ≡ Some c
+        → L.line (L.loaded lib.old) name.now ≡ n
+        → IsLone (F.token folder.old) (since (F.history folder.old) (F.history folder.new))
+        → IsSound (root_of memory.now.location) L.answer (now (F.history folder.old))
+        → (Rose (F.faults folder.old) (F.faults folder.new) → ⊥)
+        → ComputedAt result (LeavesAsked (asked memory.now name.now c n args.now) L.answer
+        (now (F.history folder.old)) (now (F.history folder.new))
+        (H.told host.old) (H.moments host.old) (L.calls lib.old) (L.calls lib.new)) }
     ensures idle { IsRefusal result → folder.new ≡ folder.old }
     ensures told { F.told folder.old → F.told folder.new }
     ensures token { F.token folder.new ≡ F.token folder.old }
@@ -88,13 +97,22 @@ fn called<L: Library, F: Folder, H: Host>(
     requires token { F.token folder.old ≡ memory.now.token }
     requires module_name { IsTrue (is_name memory.now.module) }
     requires module_size { length (L.loaded lib.old) ≤ 1048576 }
-    ensures lawful { F.told folder.old → CallsFolder (IsLawful (root_of memory.now.location) L.answer) (IsLawful (root_of memory.now.location) L.answer) (F.token folder.old) AnyMove
-        (IsSound (root_of memory.now.location) L.answer) (IsSound (root_of memory.now.location) L.answer) (F.history folder.old) (F.history folder.new) }
-    ensures computes { Computes (called_of L.answer (L.code (L.loaded lib.old) name.now) args.now) (IsTrusted (root_of memory.now.location) L.answer (F.told folder.old) (F.history folder.old) (F.history folder.new)) result }
+    ensures lawful { F.told folder.old
+        → CallsFolder (IsLawful (root_of memory.now.location) L.answer) (IsLawful (root_of memory.now.location) L.answer)
+        (F.token folder.old) AnyMove (IsSound (root_of memory.now.location) L.answer) (IsSound (root_of memory.now.location) L.answer)
+        (F.history folder.old) (F.history folder.new) }
+    ensures computes { Computes (called_of L.answer (L.code (L.loaded lib.old) name.now) args.now)
+        (IsTrusted (root_of memory.now.location) L.answer (F.told folder.old) (F.history folder.old) (F.history folder.new)) result }
     ensures calls { Counts result (L.calls lib.old) (L.calls lib.new) }
-    ensures warns { CallWarns L.code L.line memory.now (L.loaded lib.old) name.now args.now (F.told folder.old) (F.faults folder.old) (F.faults folder.new) (F.history folder.old) (F.history folder.new) warnings.old.items warnings.new.items }
-    ensures alone { F.told folder.old → IsLone (F.token folder.old) (since (F.history folder.old) (F.history folder.new)) → IsSound (root_of memory.now.location) L.answer (now (F.history folder.old)) → (Rose (F.faults folder.old) (F.faults folder.new) → ⊥)
-        → ComputedAt result (LeavesCalled L.code L.line L.answer memory.now (L.loaded lib.old) name.now args.now (now (F.history folder.old)) (now (F.history folder.new)) (H.told host.old) (H.moments host.old) (L.calls lib.old) (L.calls lib.new)) }
+    ensures warns { CallWarns L.code L.line memory.now (L.loaded lib.old) name.now args.now
+        (F.told folder.old) (F.faults folder.old) (F.faults folder.new)
+        (F.history folder.old) (F.history folder.new) warnings.old.items warnings.new.items }
+    ensures alone { F.told folder.old → IsLone (F.token folder.old) (since (F.history folder.old) (F.history folder.new))
+        → IsSound (root_of memory.now.location) L.answer (now (F.history folder.old))
+        → (Rose (F.faults folder.old) (F.faults folder.new) → ⊥)
+        → ComputedAt result (LeavesCalled L.code L.line L.answer memory.now (L.loaded lib.old) name.now args.now
+        (now (F.history folder.old)) (now (F.history folder.new))
+        (H.told host.old) (H.moments host.old) (L.calls lib.old) (L.calls lib.new)) }
     ensures idle { IsRefusal result → folder.new ≡ folder.old }
     ensures told { F.told folder.old → F.told folder.new }
     ensures token { F.token folder.new ≡ F.token folder.old }
@@ -126,13 +144,22 @@ pub fn compute<L: Library, F: Folder, H: Host>(
 ) -> Computed
     requires token { F.token folder.old ≡ memory.now.token }
     requires module_name { IsTrue (is_name memory.now.module) }
-    ensures lawful { F.told folder.old → CallsFolder (IsLawful (root_of memory.now.location) L.answer) (IsLawful (root_of memory.now.location) L.answer) (F.token folder.old) AnyMove
-        (IsSound (root_of memory.now.location) L.answer) (IsSound (root_of memory.now.location) L.answer) (F.history folder.old) (F.history folder.new) }
-    ensures computes { Computes (call_output L.code L.fault L.answer bytes.now name.now args.now) (IsTrusted (root_of memory.now.location) L.answer (F.told folder.old) (F.history folder.old) (F.history folder.new)) result }
+    ensures lawful { F.told folder.old
+        → CallsFolder (IsLawful (root_of memory.now.location) L.answer) (IsLawful (root_of memory.now.location) L.answer)
+        (F.token folder.old) AnyMove (IsSound (root_of memory.now.location) L.answer) (IsSound (root_of memory.now.location) L.answer)
+        (F.history folder.old) (F.history folder.new) }
+    ensures computes { Computes (call_output L.code L.fault L.answer bytes.now name.now args.now)
+        (IsTrusted (root_of memory.now.location) L.answer (F.told folder.old) (F.history folder.old) (F.history folder.new)) result }
     ensures calls { Counts result (L.calls lib.old) (L.calls lib.new) }
-    ensures warns { CallWarns L.code L.line memory.now bytes.now name.now args.now (F.told folder.old) (F.faults folder.old) (F.faults folder.new) (F.history folder.old) (F.history folder.new) warnings.old.items warnings.new.items }
-    ensures alone { F.told folder.old → IsLone (F.token folder.old) (since (F.history folder.old) (F.history folder.new)) → IsSound (root_of memory.now.location) L.answer (now (F.history folder.old)) → (Rose (F.faults folder.old) (F.faults folder.new) → ⊥)
-        → ComputedAt result (LeavesCalled L.code L.line L.answer memory.now bytes.now name.now args.now (now (F.history folder.old)) (now (F.history folder.new)) (H.told host.old) (H.moments host.old) (L.calls lib.old) (L.calls lib.new)) }
+    ensures warns { CallWarns L.code L.line memory.now bytes.now name.now args.now
+        (F.told folder.old) (F.faults folder.old) (F.faults folder.new)
+        (F.history folder.old) (F.history folder.new) warnings.old.items warnings.new.items }
+    ensures alone { F.told folder.old → IsLone (F.token folder.old) (since (F.history folder.old) (F.history folder.new))
+        → IsSound (root_of memory.now.location) L.answer (now (F.history folder.old))
+        → (Rose (F.faults folder.old) (F.faults folder.new) → ⊥)
+        → ComputedAt result (LeavesCalled L.code L.line L.answer memory.now bytes.now name.now args.now
+        (now (F.history folder.old)) (now (F.history folder.new))
+        (H.told host.old) (H.moments host.old) (L.calls lib.old) (L.calls lib.new)) }
     ensures idle { IsRefusal result → folder.new ≡ folder.old }
     ensures told { F.told folder.old → F.told folder.new }
     ensures token { F.token folder.new ≡ F.token folder.old }

@@ -1,6 +1,5 @@
 // The command `reduce-size`.
 ghost use Rattle.std.specs.Prelude.{◌≡◌, ◌≤◌, ℕ, IfOk};
-ghost use Rattle.jl_streams.specs.Moments.{moment_of};
 ghost use Rattle.jl_entry.specs.Names.{root_of};
 ghost use Rattle.jl_claims.specs.Claims.{Called as CallsFolder, Anywhere};
 ghost use Rattle.jl_laws.specs.Whole.{Answers};
@@ -12,7 +11,7 @@ ghost use Rattle.jl_evict.specs.Reducing.{IsOfEntry};
 ghost use Rattle.jl_cmd.specs.declared.computed.Computed.TheVariants as computed;
 ghost use Rattle.jl_cmd.specs.Endings.{scene};
 ghost use Rattle.jl_cmd.specs.Run.{WritesWarned};
-ghost use Rattle.jl_cmd.specs.Reports.{report_of, IsReported, EndsReducing};
+ghost use Rattle.jl_cmd.specs.Reports.{report_of, IsMomentOf, IsReported, EndsReducing};
 
 use crate::call::finish;
 use crate::computed::Computed;
@@ -35,7 +34,8 @@ fn report_line(alloc: Global, count: u64, bytes: u64) -> Result<Text, AllocError
 
 // Prints that line, unless memory wants for it.
 fn print_report<O: Sink>(alloc: Global, out: &mut O, count: u64, bytes: u64) -> Ended
-    ensures writes { WritesWarned (computed.Printed (report_of count bytes)) result (O.told out.old) (O.faults out.old) (O.faults out.new) (O.written out.old) (O.written out.new) }
+    ensures writes { WritesWarned (computed.Printed (report_of count bytes)) result
+        (O.told out.old) (O.faults out.old) (O.faults out.new) (O.written out.old) (O.written out.new) }
     ensures told { O.told out.old → O.told out.new }
     ensures later { O.faults out.old ≤ O.faults out.new }
 {
@@ -54,12 +54,19 @@ pub fn reduce<F: Folder, O: Sink, H: Host>(
     location: &Path,
     limits: &Limits,
 ) -> Ended
-    ensures ends { (i i' : ℕ) → EndsReducing result (IsReported location.now limits.now (λ n. H.told host.old → n ≡ moment_of (H.moments host.old)) (F.told folder.old) (F.token folder.old) (F.history folder.old) (F.history folder.new)) (O.told out.old)
-        (scene (F.history folder.old) (F.history folder.new) (F.faults folder.old) (F.faults folder.new) (O.written out.old) (O.written out.new) (O.faults out.old) (O.faults out.new) i i') }
+    ensures ends { (i i' : ℕ) → EndsReducing result
+        (IsReported location.now limits.now (IsMomentOf (H.told host.old) (H.moments host.old))
+        (F.told folder.old) (F.token folder.old) (F.history folder.old) (F.history folder.new))
+        (O.told out.old)
+        (scene (F.history folder.old) (F.history folder.new) (F.faults folder.old) (F.faults folder.new)
+        (O.written out.old) (O.written out.new) (O.faults out.old) (O.faults out.new) i i') }
     // Names of entries go, and their folders, and nothing else, whatever others do.
-    ensures called { F.told folder.old → CallsFolder (IsProper (root_of location.now)) (IsProper (root_of location.now)) (F.token folder.old)
-        (IsTaking (root_of location.now) (IsOfEntry (root_of location.now))) Anywhere Anywhere (F.history folder.old) (F.history folder.new) }
-    ensures lawful { F.told folder.old → (answer : Answers) → CallsFolder (IsLawful (root_of location.now) answer) (IsLawful (root_of location.now) answer) (F.token folder.old) AnyMove
+    ensures called { F.told folder.old
+        → CallsFolder (IsProper (root_of location.now)) (IsProper (root_of location.now)) (F.token folder.old)
+        (IsTaking (root_of location.now) (IsOfEntry (root_of location.now)))
+        Anywhere Anywhere (F.history folder.old) (F.history folder.new) }
+    ensures lawful { F.told folder.old → (answer : Answers)
+        → CallsFolder (IsLawful (root_of location.now) answer) (IsLawful (root_of location.now) answer) (F.token folder.old) AnyMove
         (IsSound (root_of location.now) answer) (IsSound (root_of location.now) answer) (F.history folder.old) (F.history folder.new) }
     ensures told { F.told folder.old → F.told folder.new }
     ensures token { F.token folder.new ≡ F.token folder.old }

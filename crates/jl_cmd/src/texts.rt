@@ -42,7 +42,8 @@ pub fn task_line(alloc: Global, index: u64, error: TaskError) -> Result<Text, Al
 }
 
 pub fn module_line(alloc: Global, fault: ModuleFault) -> Result<Text, AllocError>
-    ensures { IfOk result (λ t. t ≡ error_line_lem (codes "module line " ++ (decimal fault.line ++ (codes ": " ++ fault_name_of fault.kind)))) }
+    ensures { IfOk result
+        (λ t. t ≡ error_line_lem (codes "module line " ++ (decimal fault.line ++ (codes ": " ++ fault_name_of fault.kind)))) }
 {
     let line = fault.line;
     let kind = fault.kind.name();

@@ -248,7 +248,8 @@ pub fn run<L: Library, F: Folder, S: Source, O: Sink, E: Sink, H: Host>(
     ensures no_module { (s : Command) → given_by words.now (H.processors host.old) ≡ Some s → result ≡ 9 → F.told folder.old
         → LacksModule (module_of s)
         (scene_of F.history F.faults folder.old folder.new O.written O.faults out.old out.new S.faults input.old input.new) }
-    ensures read_fault { result ≡ 5 → AreReading (given_by words.now (H.processors host.old)) × Rose (S.faults input.old) (S.faults input.new) }
+    ensures read_fault { result ≡ 5 → AreReading (given_by words.now (H.processors host.old))
+        × Rose (S.faults input.old) (S.faults input.new) }
     ensures folder_fault { result ≡ 10 → Rose (F.faults folder.old) (F.faults folder.new) }
     ensures text { IsSilent result ⊎ (result ≡ 6) → E.told err.old → (Rose (E.faults err.old) (E.faults err.new) → ⊥)
         → (said : List ℕ) × SaidBy (given_by words.now (H.processors host.old))

@@ -34,7 +34,11 @@ pub fn follow<S: Source, F: Folder, E: Sink>(
     folder: &mut F,
     err: &mut E,
 ) -> Ended
-    ensures follows { Follows (S.told input.old) (F.told folder.old) (E.told err.old) (F.token folder.old) (S.left input.old) (S.left input.new) (stage (F.history folder.old) (F.faults folder.old) (E.written err.old) (E.faults err.old)) (stage (F.history folder.new) (F.faults folder.new) (E.written err.new) (E.faults err.new)) result }
+    ensures follows { Follows (S.told input.old) (F.told folder.old) (E.told err.old)
+        (F.token folder.old) (S.left input.old) (S.left input.new)
+        (stage (F.history folder.old) (F.faults folder.old) (E.written err.old) (E.faults err.old))
+        (stage (F.history folder.new) (F.faults folder.new) (E.written err.new) (E.faults err.new))
+        result }
     ensures faults { Faults (S.faults input.old) (S.faults input.new) (result ≡ ReadFault) }
     ensures input_told { S.told input.old → S.told input.new }
     ensures told { F.told folder.old → F.told folder.new }
