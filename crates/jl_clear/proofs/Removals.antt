@@ -1,5 +1,5 @@
 -- What one removal leaves, where no other moved.
-use Rattle.std.proofs.Common.{◌≡◌, ◌⊎◌, inl, inr, ⊎_elim, ℕ, List, [], ◌∷◌, ◌++◌, false, true, Option, None, Some, IsSome, true≢false, sym, ap, subst, ◌∙◌}
+use Rattle.std.proofs.Common.{◌≡◌, ◌⊎◌, inl, inr, ⊎_elim, ℕ, List, [], ◌∷◌, ◌++◌, false, Option, None, Some, IsSome, true≢false, sym, ap, subst, ◌∙◌}
 use Rattle.jl_text.specs.Paths.{PathView, is_fixed}
 use Rattle.jl_folder.specs.declared.moves.Place.{Place}
 use Rattle.jl_folder.specs.declared.moves.Move.{Move}

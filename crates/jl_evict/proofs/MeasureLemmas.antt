@@ -1,5 +1,5 @@
 -- What sizes and moments are found out.
-use Rattle.std.proofs.Common.{◌≡◌, ◌⊎◌, inl, inr, ⊎_elim, ℕ, ◌+◌, ◌^◌, ◌<◌, ◌≤◌, List, [], ◌∷◌, ◌++◌, false, true, true≢false, Option, None, Some, length, take, refl, sym, ap, subst, ◌∙◌, arith, length-append, length-take, decimal, option_map, sum_by, get_or, min, ◌-◌}
+use Rattle.std.proofs.Common.{◌≡◌, inl, inr, ⊎_elim, ℕ, ◌+◌, ◌^◌, ◌<◌, ◌≤◌, List, [], ◌∷◌, ◌++◌, false, true≢false, Option, None, Some, length, take, refl, sym, ap, subst, ◌∙◌, arith, length-append, length-take, decimal, option_map, sum_by, get_or, min, ◌-◌}
 use Rattle.std.proofs.lemmas.List.Sums.{sum_by_more}
 use Rattle.std.specs.Option.{option_map_or}
 use Rattle.std.proofs.lemmas.Fmt.{length-decimal-le}

@@ -1,8 +1,5 @@
 -- The order in which items go.
-use Rattle.std.proofs.Common.{ℕ, List}
-use Rattle.std.specs.Ordering.{nat_cmp, then_cmp}
 use Rattle.std.specs.Cmp.{IsTotalOrder, nat_cmp_total}
-use Rattle.std.specs.Cmp.Lexicographic.{slice_cmp}
 use Rattle.std.proofs.lemmas.Cmp.{then_total, nat_list_cmp_total}
 use Rattle.std.specs.declared.cmp.Ordering.{Ordering}
 use Rattle.jl_evict.specs.declared.item.Item.{Item}

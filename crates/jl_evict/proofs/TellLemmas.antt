@@ -1,5 +1,5 @@
 -- Parts of a walk, one after another.
-use Rattle.std.proofs.Common.{◌≡◌, ◌⊎◌, inl, inr, ⊎_elim, ℕ, ◌≤◌, List, [], ◌∷◌, ◌++◌, Option, None, Some, refl, sym, ap, subst, ◌∙◌}
+use Rattle.std.proofs.Common.{◌≡◌, ◌⊎◌, inl, ⊎_elim, ℕ, ◌≤◌, List, [], ◌∷◌, Option, None, refl, sym, ap, subst, ◌∙◌}
 use Rattle.jl_text.specs.Counts.{Rose}
 use Rattle.jl_folder.specs.declared.moves.Move.{Move}
 use Rattle.jl_folder.specs.State.{State, Trace, History, Opens, IsState, IsForeign, now, since, run}

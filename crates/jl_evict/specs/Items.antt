@@ -1,5 +1,5 @@
 -- The items of a state.
-use Rattle.std.specs.Prelude.{◌≡◌, ◌≢◌, ◌⊎◌, ℕ, ◌-◌, ◌^◌, min, true, List, [], ◌∷◌, ◌++◌, Option, None, Some, length, sum_by, Contains, IsTrue, ⊤}
+use Rattle.std.specs.Prelude.{◌≡◌, ◌≢◌, ◌⊎◌, ℕ, ◌-◌, ◌^◌, min, true, List, [], ◌∷◌, ◌++◌, Some, length, sum_by, Contains, IsTrue, ⊤}
 use Rattle.std.specs.Option.{option_map_or}
 use Rattle.jl_text.specs.Paths.{PathView, text_of}
 use Rattle.jl_text.specs.Texts.{is_name}

@@ -2,7 +2,7 @@
 use Rattle.std.specs.Prelude.{◌≡◌, ℕ, List, Contains, length, take, ⊤}
 use Rattle.std.specs.List.Sorted.{IsPermutation, IsSorted}
 use Rattle.jl_text.specs.Paths.{PathView, path_of}
-use Rattle.jl_folder.specs.State.{State, Trace, History, Opens, now}
+use Rattle.jl_folder.specs.State.{State, Trace, History, Opens}
 use Rattle.jl_entry.specs.Names.{IsBelow, below}
 use Rattle.jl_claims.specs.Steps.{OwnMoves}
 use Rattle.jl_claims.specs.Claims.{Anywhere}

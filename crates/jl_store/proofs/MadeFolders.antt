@@ -1,5 +1,5 @@
 -- What making folders leaves where no other moved.
-use Rattle.std.proofs.Common.{◌≡◌, ◌⊎◌, ⊎_elim, ℕ, List, [], Some, sym, subst}
+use Rattle.std.proofs.Common.{◌≡◌, ⊎_elim, ℕ, List, [], Some, sym, subst}
 use Rattle.jl_text.specs.Paths.{PathView}
 use Rattle.jl_folder.specs.declared.moves.Place.TheVariants.{Folder}
 use Rattle.jl_folder.specs.declared.moves.Move.{Move}

@@ -1,5 +1,5 @@
 -- Which folders stand above what stands in a state.
-use Rattle.std.proofs.Common.{◌≡◌, ◌≢◌, ℕ, ◌+◌, ◌-◌, List, [], ◌∷◌, ◌++◌, true, false, not, Some, IsSome, is_some, true≢false, refl, sym, ap, subst, ◌∙◌, append_assoc, append-nil}
+use Rattle.std.proofs.Common.{◌≡◌, ℕ, List, [], ◌∷◌, ◌++◌, true, false, not, Some, IsSome, is_some, true≢false, refl, sym, ap, subst, ◌∙◌, append_assoc, append-nil}
 use Rattle.std.proofs.lemmas.Bool.{and_parts}
 use Rattle.jl_text.specs.Paths.{PathView, is_fixed, parent}
 use Rattle.jl_folder.specs.declared.moves.Place.TheVariants.{Folder}

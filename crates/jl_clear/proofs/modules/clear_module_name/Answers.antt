@@ -1,4 +1,4 @@
-use Rattle.std.proofs.Common.{◌≡◌, ◌∙◌, true, true≢false, sym, subst}
+use Rattle.std.proofs.Common.{◌≡◌, ◌∙◌, true≢false, sym, subst}
 use Rattle.jl_claims.specs.Claims.{Anywhere}
 use Rattle.jl_clear.specs.declared.removing.Clear.TheVariants.{Cleared, Fault, NoMemory}
 use Rattle.jl_clear.specs.Taking.{IsNameOf, IsModuleFolder, IsInside}

@@ -1,4 +1,4 @@
-use Rattle.std.proofs.Common.{◌≡◌, ◌∙◌, ap}
+use Rattle.std.proofs.Common.{◌∙◌, ap}
 use Rattle.jl_entry.specs.Names.{is_key}
 use Rattle.jl_clear.proofs.NameLemmas.{key_by, no_key}
 use Rattle.jl_clear.proofs.names.is_key_name.Goals as goal

@@ -1,4 +1,4 @@
-use Rattle.std.proofs.Common.{◌≡◌, ◌+◌, ℕ, true, true≢false, sym, ap, below_more, arith, ◌∙◌}
+use Rattle.std.proofs.Common.{◌≡◌, true, true≢false, sym, ap, below_more, arith, ◌∙◌}
 use Rattle.std.proofs.lemmas.List.Sums.{sum_by_more}
 use Rattle.jl_evict.specs.declared.item.Item.{Item}
 use Rattle.jl_evict.specs.Choosing.{excess}

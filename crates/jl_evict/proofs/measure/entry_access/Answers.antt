@@ -1,4 +1,4 @@
-use Rattle.std.proofs.Common.{◌≡◌, ◌+◌, ◌∙◌, ◌++◌, ℕ, List, ◌∷◌, [], take, refl, sym, ap, subst, arith, inl, inr, add-one}
+use Rattle.std.proofs.Common.{◌++◌, ◌∷◌, [], subst}
 use Rattle.jl_evict.specs.declared.measure.Measure.TheVariants.{NoMemory}
 use Rattle.jl_evict.specs.Walks.{Tells, IsMeasured, IsMeasureFault, Accessed}
 use Rattle.jl_entry.specs.Names.{entry_part}

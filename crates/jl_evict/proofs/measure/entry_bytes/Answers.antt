@@ -1,8 +1,7 @@
-use Rattle.std.proofs.Common.{◌≡◌, ◌+◌, ◌∙◌, ◌++◌, ℕ, List, ◌∷◌, [], take, refl, sym, ap, subst, arith, sum_by, get_or, length, ◌<◌, ◌≤◌, inl, inr, add-one}
+use Rattle.std.proofs.Common.{◌≡◌, ◌+◌, ◌∙◌, ◌++◌, ℕ, List, ◌∷◌, [], take, ap, sum_by, inl}
 use Rattle.jl_evict.specs.declared.measure.Measure.TheVariants.{Number}
 use Rattle.jl_evict.specs.Walks.{IsMeasured, IsMeasureFault, Sized, Summed}
 use Rattle.std.proofs.lemmas.List.{take_all}
-use Rattle.std.proofs.lemmas.List.Sums.{sum_by_more}
 use Rattle.jl_folder.specs.declared.listing.Name.{Name}
 use Rattle.jl_claims.specs.Claims.{Anywhere}
 use Rattle.jl_evict.specs.Items.{held, size_at}

@@ -1,4 +1,4 @@
-use Rattle.std.proofs.Common.{◌≡◌, ◌+◌, ◌∙◌, ◌++◌, ℕ, List, ◌∷◌, [], take, refl, sym, ap, subst, arith, inl, inr, add-one}
+use Rattle.std.proofs.Common.{sym, subst}
 use Rattle.jl_evict.specs.declared.measure.Measure.{Measure}
 use Rattle.jl_evict.specs.Walks.{Tells, IsMeasured, IsMeasureFault, measure_of, Sized}
 use Rattle.jl_folder.specs.Calls.{SizesFile}

@@ -1,4 +1,4 @@
-use Rattle.std.proofs.Common.{◌≡◌, ◌+◌, ◌∙◌, ◌++◌, ℕ, List, ◌∷◌, [], take, false, refl, sym, ap, subst, arith, inl, inr, add-one}
+use Rattle.std.proofs.Common.{◌≡◌, ℕ, List, false, refl, sym, subst}
 use Rattle.jl_evict.specs.declared.measure.Measure.TheVariants.{Number, Fault, NoMemory}
 use Rattle.jl_evict.specs.Walks.{IsMeasured, IsMeasureFault, Accessed}
 use Rattle.jl_folder.specs.State.{now, since, is_file}

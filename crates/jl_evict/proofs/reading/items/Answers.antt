@@ -1,4 +1,4 @@
-use Rattle.std.proofs.Common.{◌≡◌, ◌∙◌, [], refl, sym, ap, subst}
+use Rattle.std.proofs.Common.{◌≡◌, refl, subst}
 use Rattle.jl_text.specs.Paths.{PathView}
 use Rattle.jl_folder.proofs.ReadingLemmas.{waits_none}
 use Rattle.jl_entry.specs.Names.{IsBelow, root_of}

@@ -1,4 +1,4 @@
-use Rattle.std.proofs.Common.{◌≡◌, ◌∙◌, List, take, refl, sym, ap}
+use Rattle.std.proofs.Common.{◌∙◌, List, refl, ap}
 use Rattle.std.proofs.lemmas.List.{take_all}
 use Rattle.jl_evict.specs.declared.item.Item.{Item}
 use Rattle.jl_evict.specs.Choosing.{bytes_of}

@@ -1,4 +1,4 @@
-use Rattle.std.proofs.Common.{◌≡◌, ◌+◌, ◌∙◌, ◌++◌, ℕ, List, ◌∷◌, [], take, refl, sym, ap, subst, arith, length, ◌<◌, inl, inr, add-one}
+use Rattle.std.proofs.Common.{◌≡◌, List, refl, ap, subst, arith, length, ◌<◌}
 use Rattle.jl_folder.specs.declared.listing.Name.{Name}
 use Rattle.jl_entry.specs.Names.{IsBelow}
 use Rattle.jl_claims.specs.Claims.{Anywhere}

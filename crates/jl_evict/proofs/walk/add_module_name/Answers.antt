@@ -1,4 +1,4 @@
-use Rattle.std.proofs.Common.{◌≡◌, ◌+◌, ◌∙◌, ◌++◌, ℕ, List, ◌∷◌, [], take, refl, sym, ap, subst, arith, true, true≢false, inl, inr, add-one}
+use Rattle.std.proofs.Common.{◌≡◌, ◌∙◌, ◌++◌, ◌∷◌, [], sym, subst, true≢false}
 use Rattle.jl_text.specs.Paths.{PathView}
 use Rattle.jl_entry.specs.Names.{IsBelow}
 use Rattle.jl_claims.specs.Claims.{Anywhere}
