@@ -1,28 +1,40 @@
 -- An expression of the grammar is read from its signs.
-use Rattle.std.proofs.Common.{◌≡◌, ℕ, suc, ◌+◌, ◌<◌, ◌≤◌, max, Bool, true, false, List, [], ◌∷◌, ◌++◌, Some, refl, sym, ap, ◌∙◌, arith, append_assoc}
+use Rattle.std.proofs.Common.{◌≡◌, ℕ, suc, ◌+◌, ◌<◌, ◌≤◌, max, true, false, List, [], ◌∷◌, ◌++◌, Some, refl, sym, ap, ◌∙◌, arith, append_assoc}
 use Rattle.std.specs.Prelude.{nat_le, nat_lt}
 use Rattle.std.proofs.lemmas.List.{append-nil}
-use Rattle.jl_syntax.specs.declared.operators.Operator.{Operator}
-use Rattle.jl_syntax.specs.declared.operators.Operator.TheVariants.{Or, And, Equal, Unequal, Less, AtMost, Greater, AtLeast, Plus, Minus, Times, Quotient, Remainder}
-use Rattle.jl_syntax.specs.declared.operators.Prefix.{Prefix}
-use Rattle.jl_syntax.specs.declared.operators.Prefix.TheVariants.{Not, Negative}
-use Rattle.jl_syntax.specs.declared.operators.Function.{Function}
-use Rattle.jl_syntax.specs.declared.operators.Function.TheVariants.{Len, Sum, Min, Max, Range, Array}
-use Rattle.jl_syntax.specs.declared.joint.Joint.TheVariants.{Infix, Opening, If, Else, Closing, Ending, Comma}
+use Rattle.jl_signs.specs.declared.operators.Operator.{Operator}
+use Rattle.jl_signs.specs.declared.operators.Operator.TheVariants.{Or, And, Equal, Unequal, Less, AtMost, Greater, AtLeast, Plus, Minus, Times, Quotient, Remainder}
+use Rattle.jl_signs.specs.declared.operators.Prefix.{Prefix}
+use Rattle.jl_signs.specs.declared.operators.Prefix.TheVariants.{Not, Negative}
+use Rattle.jl_signs.specs.declared.operators.Function.{Function}
+use Rattle.jl_signs.specs.declared.operators.Function.TheVariants.{Len, Sum, Min, Max, Range, Array}
+use Rattle.jl_syntax.specs.declared.joint.Joint.TheVariants.{Infix}
 use Rattle.jl_syntax.specs.declared.machine.Frame.{Frame}
-use Rattle.jl_syntax.specs.declared.machine.Frame.TheVariants.{Bracket, Behind, Operand, Condition, Otherwise, Element, Member, Bound}
-use Rattle.jl_syntax.specs.declared.machine.Mode.TheVariants.{Wanted, Held, Calling}
-use Rattle.jl_syntax.specs.Words.{is_leaf, is_form_word, is_truth_word, is_function_word, true_word, false_word, none_word, is_identifier, constant_of, named_constant}
-use Rattle.jl_syntax.specs.Marks.{operator_word, prefix_word, if_word, else_word, operator_of, prefix_of, function_word, function_of, own_level, left_level, prefix_level}
-use Rattle.jl_syntax.specs.Trees.{Expression, tall, leaf, bracketed, before, between, choice, index, call, span, list, each, filtered, table}
-use Rattle.jl_syntax.specs.Grammar.{level, IsFormed, words_of, brackets, round_open, round_close, square_open, square_close, comma}
-use Rattle.jl_syntax.specs.Machine.{joint_of, wanted, depth, binds, top_binds, operated, Operands, reduced, Step, going, begun, nested, prefixed, infixed, asked, elsed_by, closed_by, ended_by, parted_by, called_or, gone_on, Read, read, broken, nested_deep, finished, follow, run, read_signs, whole_by}
+use Rattle.jl_syntax.specs.declared.machine.Frame.TheVariants.{Bracket, Behind, Operand, Condition, Otherwise, Element, Member, Bound, Listed, Keyed, Source, Filter}
+use Rattle.jl_syntax.specs.declared.machine.Mode.TheVariants.{Wanted, Held, Key, Each}
+use Rattle.jl_signs.specs.Words.{is_leaf, is_form_word, is_truth_word, is_function_word, true_word, false_word, none_word, is_identifier, is_key}
+use Rattle.jl_signs.specs.Marks.{operator_word, prefix_word, if_word, else_word, for_word, in_word, prefix_of, function_word, own_level, left_level, prefix_level}
+use Rattle.jl_syntax.specs.Trees.{Expression, tall, leaf, bracketed, before, between, choice, index, call, span, list, each, filtered, table, Members, no_members, member, members_of, Entries, no_entries, entry, entries_of}
+use Rattle.jl_syntax.specs.Grammar.{level, IsFormed, AreFormed, HaveFormed, words_of, more_members, more_entries, brackets, members_brackets, entries_brackets, round_open, round_close, square_open, square_close, curly_open, curly_close, comma, colon}
+use Rattle.jl_syntax.specs.Machine.{joint_of, wanted, depth, binds, top_binds, operated, Operands, reduced, unkeyed, nested, infixed, asked_by, top_is_source, looped_by, elsed_by, closed_by, ended_by, braced_by, parted_by, gone_on, Read, read, follow, run, whole_by}
 
 -- ---- what the signs of the grammar are
 
 pub no_leaf_round : is_leaf round_open ≡ false
 unfolding true_word false_word none_word
 no_leaf_round = refl
+
+pub no_leaf_square : is_leaf square_open ≡ false
+unfolding true_word false_word none_word
+no_leaf_square = refl
+
+pub no_leaf_end : is_leaf square_close ≡ false
+unfolding true_word false_word none_word
+no_leaf_end = refl
+
+pub no_leaf_curly : is_leaf curly_open ≡ false
+unfolding true_word false_word none_word
+no_leaf_curly = refl
 
 pub no_leaf_prefix : (p : Prefix) → is_leaf (prefix_word p) ≡ false
 unfolding true_word false_word none_word is_form_word is_truth_word is_function_word
@@ -101,7 +113,7 @@ le_true a b h = grind arith
 le_false : (a b : ℕ) → b < a → nat_le a b ≡ false
 le_false a b h = grind arith
 
-lt_true : (a b : ℕ) → a < b → nat_lt a b ≡ true
+pub lt_true : (a b : ℕ) → a < b → nat_lt a b ≡ true
 lt_true a b h = grind arith
 
 -- ---- operations that are done
@@ -123,6 +135,10 @@ unbound o (Otherwise a c ∷ fs) h = let l = levels o in let low : 1 ≤ left_le
 unbound o (Element a ∷ fs) h = refl
 unbound o (Member f ∷ fs) h = refl
 unbound o (Bound a ∷ fs) h = refl
+unbound o (Listed es ∷ fs) h = refl
+unbound o (Keyed es k ∷ fs) h = refl
+unbound o (Source m x ∷ fs) h = refl
+unbound o (Filter m x a ∷ fs) h = refl
 
 -- before an `if` that may stand there
 pub unbound_if : (fs : List Frame) → wanted fs ≤ 0 → top_binds 1 fs ≡ false
@@ -136,6 +152,26 @@ unbound_if (Otherwise a c ∷ fs) h = refl
 unbound_if (Element a ∷ fs) h = refl
 unbound_if (Member f ∷ fs) h = refl
 unbound_if (Bound a ∷ fs) h = refl
+unbound_if (Listed es ∷ fs) h = refl
+unbound_if (Keyed es k ∷ fs) h = refl
+unbound_if (Source m x ∷ fs) h = refl
+unbound_if (Filter m x a ∷ fs) h = refl
+
+-- an `if` that may stand there is no condition of members
+no_source : (fs : List Frame) → wanted fs ≤ 0 → top_is_source fs ≡ false
+no_source [] h = refl
+no_source (Bracket ∷ fs) h = refl
+no_source (Behind p ∷ fs) h = refl
+no_source (Operand o a ∷ fs) h = refl
+no_source (Condition a ∷ fs) h = refl
+no_source (Otherwise a c ∷ fs) h = refl
+no_source (Element a ∷ fs) h = refl
+no_source (Member f ∷ fs) h = refl
+no_source (Bound a ∷ fs) h = refl
+no_source (Listed es ∷ fs) h = refl
+no_source (Keyed es k ∷ fs) h = refl
+no_source (Source m x ∷ fs) h = absurd (omega arith)
+no_source (Filter m x a ∷ fs) h = refl
 
 -- what waits, and the operand, once the signs of an expression were read
 abbrev pub spine : List Frame → Expression → Operands
@@ -222,8 +258,8 @@ infix_read room o a fs ws h k w =
 
 pub if_read : (room : ℕ) (a : Expression) (fs : List Frame) (ws : List (List ℕ)) → IsFormed a → 1 ≤ level a → wanted fs ≤ 0 → held room (spine fs a) (if_word ∷ ws) ≡ wanting room (Condition a ∷ fs) ws
 if_read room a fs ws h k w =
-    ap (λ r. follow (asked r) (λ gs n. run (λ e. e) room gs n ws)) (unwinds a 1 fs h k ∙ stays 1 fs a (unbound_if fs w))
-    ∙ rw (le_true (wanted fs) 0 w)
+    ap (λ (r : Operands). follow (asked_by r.frames r.tree) (λ gs n. run (λ e. e) room gs n ws)) (unwinds a 1 fs h k ∙ stays 1 fs a (unbound_if fs w))
+    ∙ rw (no_source fs w, le_true (wanted fs) 0 w)
 
 pub else_read : (room : ℕ) (a c : Expression) (fs : List Frame) (ws : List (List ℕ)) → IsFormed c → 1 ≤ level c → held room (spine (Condition a ∷ fs) c) (else_word ∷ ws) ≡ wanting room (Otherwise a c ∷ fs) ws
 else_read room a c fs ws h k =
@@ -262,57 +298,211 @@ pub span_read : (room : ℕ) (a b : Expression) (fs : List Frame) (ws : List (Li
 span_read room a b fs ws h =
     ap (λ (r : Operands). follow (closed_by (λ e. e) r.frames r.tree) (λ gs n. run (λ e. e) room gs n ws)) (unwinds b 0 (Bound a ∷ fs) h (omega arith) ∙ stays 0 (Bound a ∷ fs) b refl)
 
--- behind the signs of an expression its operations wait
-pub reads : (e : Expression) (room : ℕ) (fs : List Frame) (rest : List (List ℕ)) → IsFormed e → wanted fs ≤ level e → depth fs + brackets e ≤ room → run (λ e. e) room fs Wanted (words_of e ++ rest) ≡ held room (spine fs e) rest
-reads tall room fs rest h k low = absurd h
-reads (leaf w) room fs rest h k low = leaf_read room w fs rest h
-reads (bracketed e) room fs rest h k low =
-    ap (λ ws. wanting room fs (round_open ∷ ws)) (append_assoc (words_of e) (round_close ∷ []) rest)
-    ∙ open_round room fs (words_of e ++ round_close ∷ rest) (omega arith)
-    ∙ reads e room (Bracket ∷ fs) (round_close ∷ rest) h (omega arith) (omega arith)
-    ∙ round_read room e fs rest h
-reads (before p e) room fs rest h k low = read_prefix room p fs (words_of e ++ rest) k ∙ reads e room (Behind p ∷ fs) rest h.1 h.0 (omega arith)
-reads (between o a b) room fs rest h k low =
-    let high = h.0 in let more = h.2 in let left = own_le_left o in
-    ap (λ ws. wanting room fs ws) (append_assoc (words_of a) (operator_word o ∷ words_of b) rest)
-    ∙ reads a room fs (operator_word o ∷ (words_of b ++ rest)) h.1 (omega arith) (omega arith)
-    ∙ infix_read room o a fs (words_of b ++ rest) h.1 h.0 k
-    ∙ reads b room (Operand o a ∷ fs) rest h.3 (omega arith) (omega arith)
-reads (choice a c b) room fs rest h k low =
-    let more = h.0 in let condition = h.2 in
-    ap (λ ws. wanting room fs ws) (append_assoc (words_of a) (if_word ∷ (words_of c ++ else_word ∷ words_of b)) rest)
-    ∙ reads a room fs (if_word ∷ ((words_of c ++ else_word ∷ words_of b) ++ rest)) h.1 (omega arith) (omega arith)
-    ∙ if_read room a fs ((words_of c ++ else_word ∷ words_of b) ++ rest) h.1 h.0 k
-    ∙ ap (λ ws. wanting room (Condition a ∷ fs) ws) (append_assoc (words_of c) (else_word ∷ words_of b) rest)
-    ∙ reads c room (Condition a ∷ fs) (else_word ∷ (words_of b ++ rest)) h.3 h.2 (omega arith)
-    ∙ else_read room a c fs (words_of b ++ rest) h.3 h.2
-    ∙ reads b room (Otherwise a c ∷ fs) rest h.4 (omega arith) (omega arith)
-reads (index a i) room fs rest h k low =
-    ap (λ ws. wanting room fs ws) (append_assoc (words_of a) (square_open ∷ (words_of i ++ square_close ∷ [])) rest)
-    ∙ reads a room fs (square_open ∷ ((words_of i ++ square_close ∷ []) ++ rest)) h.1 (omega (arith, h.0)) (omega arith)
-    ∙ square_read room a fs ((words_of i ++ square_close ∷ []) ++ rest) h.1 h.0 (omega arith)
-    ∙ ap (λ ws. wanting room (Element a ∷ fs) ws) (append_assoc (words_of i) (square_close ∷ []) rest)
-    ∙ reads i room (Element a ∷ fs) (square_close ∷ rest) h.2 (omega arith) (omega arith)
-    ∙ end_read room a i fs rest h.2
-reads (call f e) room fs rest h k low =
-    ap (λ ws. wanting room fs (function_word f ∷ round_open ∷ ws)) (append_assoc (words_of e) (round_close ∷ []) rest)
-    ∙ open_call room f fs (words_of e ++ round_close ∷ rest)
-    ∙ nested_in room (Member f) fs (words_of e ++ round_close ∷ rest) (omega arith)
-    ∙ reads e room (Member f ∷ fs) (round_close ∷ rest) h (omega arith) (omega arith)
-    ∙ call_read room f e fs rest h
-reads (span a b) room fs rest h k low =
-    ap (λ ws. wanting room fs (function_word Range ∷ round_open ∷ ws)) (append_assoc (words_of a) (comma ∷ (words_of b ++ round_close ∷ [])) rest)
-    ∙ open_call room Range fs (words_of a ++ comma ∷ ((words_of b ++ round_close ∷ []) ++ rest))
-    ∙ nested_in room (Member Range) fs (words_of a ++ comma ∷ ((words_of b ++ round_close ∷ []) ++ rest)) (omega arith)
-    ∙ reads a room (Member Range ∷ fs) (comma ∷ ((words_of b ++ round_close ∷ []) ++ rest)) h.0 (omega arith) (omega arith)
-    ∙ bound_read room a fs ((words_of b ++ round_close ∷ []) ++ rest) h.0
-    ∙ ap (λ ws. wanting room (Bound a ∷ fs) ws) (append_assoc (words_of b) (round_close ∷ []) rest)
-    ∙ reads b room (Bound a ∷ fs) (round_close ∷ rest) h.1 (omega arith) (omega arith)
-    ∙ span_read room a b fs rest h.1
-reads (list ms) room fs rest h k low = absurd h
-reads (each e x a) room fs rest h k low = absurd h
-reads (filtered e x a c) room fs rest h k low = absurd h
-reads (table es) room fs rest h k low = absurd h
+-- ---- lists
+
+pub open_square : (room : ℕ) (fs : List Frame) (ws : List (List ℕ)) → wanting room fs (square_open ∷ ws) ≡ follow (nested room (Listed []) fs) (λ gs n. run (λ e. e) room gs n ws)
+open_square room fs ws = rw no_leaf_square
+
+empty_read : (room : ℕ) (fs : List Frame) (ws : List (List ℕ)) → wanting room (Listed [] ∷ fs) (square_close ∷ ws) ≡ held room (record { frames = fs; tree = list no_members }) ws
+empty_read room fs ws = rw no_leaf_end
+
+-- members in front of others
+abbrev pub behind : List Expression → Members → Members
+behind [] ms = ms
+behind (e ∷ es) ms = member e (behind es ms)
+
+behind_last : (es : List Expression) (e : Expression) → members_of (es ++ e ∷ []) ≡ behind es (member e no_members)
+behind_last [] e = refl
+behind_last (a ∷ es) e = ap (member a) (behind_last es e)
+
+behind_more : (es : List Expression) (e : Expression) (ms : Members) → behind (es ++ e ∷ []) ms ≡ behind es (member e ms)
+behind_more [] e ms = refl
+behind_more (a ∷ es) e ms = ap (member a) (behind_more es e ms)
+
+list_read : (room : ℕ) (es : List Expression) (e : Expression) (fs : List Frame) (ws : List (List ℕ)) → IsFormed e → held room (spine (Listed es ∷ fs) e) (square_close ∷ ws) ≡ held room (record { frames = fs; tree = list (behind es (member e no_members)) }) ws
+list_read room es e fs ws h =
+    ap (λ (r : Operands). follow (ended_by (λ e. e) r.frames r.tree) (λ gs n. run (λ e. e) room gs n ws)) (unwinds e 0 (Listed es ∷ fs) h (omega arith) ∙ stays 0 (Listed es ∷ fs) e refl)
+    ∙ ap (λ ms. held room (record { frames = fs; tree = list ms }) ws) (behind_last es e)
+
+pub comma_read : (room : ℕ) (es : List Expression) (e : Expression) (fs : List Frame) (ws : List (List ℕ)) → IsFormed e → held room (spine (Listed es ∷ fs) e) (comma ∷ ws) ≡ wanting room (Listed (es ++ e ∷ []) ∷ fs) ws
+comma_read room es e fs ws h =
+    ap (λ (r : Operands). follow (parted_by r.frames r.tree) (λ gs n. run (λ e. e) room gs n ws)) (unwinds e 0 (Listed es ∷ fs) h (omega arith) ∙ stays 0 (Listed es ∷ fs) e refl)
+
+-- ---- lists over lists
+
+for_read : (room : ℕ) (m : Expression) (fs : List Frame) (ws : List (List ℕ)) → IsFormed m → held room (spine (Listed [] ∷ fs) m) (for_word ∷ ws) ≡ run (λ e. e) room fs (Each m) ws
+for_read room m fs ws h =
+    ap (λ (r : Operands). follow (looped_by r.frames r.tree) (λ gs n. run (λ e. e) room gs n ws)) (unwinds m 0 (Listed [] ∷ fs) h (omega arith) ∙ stays 0 (Listed [] ∷ fs) m refl)
+
+naming_read : (room : ℕ) (m : Expression) (x : List ℕ) (fs : List Frame) (ws : List (List ℕ)) → is_identifier x ≡ true → depth fs < room → run (λ e. e) room fs (Each m) (x ∷ in_word ∷ ws) ≡ wanting room (Source m x ∷ fs) ws
+naming_read room m x fs ws h k = rw h (nested_in room (Source m x) fs ws k)
+
+-- up to the list that a list goes over
+pub source_read : (room : ℕ) (m : Expression) (x : List ℕ) (fs : List Frame) (ws : List (List ℕ)) → IsFormed m → is_identifier x ≡ true → depth fs < room → held room (spine (Listed [] ∷ fs) m) (for_word ∷ x ∷ in_word ∷ ws) ≡ wanting room (Source m x ∷ fs) ws
+source_read room m x fs ws h k low = for_read room m fs (x ∷ in_word ∷ ws) h ∙ naming_read room m x fs ws k low
+
+each_read : (room : ℕ) (m a : Expression) (x : List ℕ) (fs : List Frame) (ws : List (List ℕ)) → IsFormed a → held room (spine (Source m x ∷ fs) a) (square_close ∷ ws) ≡ held room (record { frames = fs; tree = each m x a }) ws
+each_read room m a x fs ws h =
+    ap (λ (r : Operands). follow (ended_by (λ e. e) r.frames r.tree) (λ gs n. run (λ e. e) room gs n ws)) (unwinds a 0 (Source m x ∷ fs) h (omega arith) ∙ stays 0 (Source m x ∷ fs) a refl)
+
+pub pick_read : (room : ℕ) (m a : Expression) (x : List ℕ) (fs : List Frame) (ws : List (List ℕ)) → IsFormed a → 1 ≤ level a → held room (spine (Source m x ∷ fs) a) (if_word ∷ ws) ≡ wanting room (Filter m x a ∷ fs) ws
+pick_read room m a x fs ws h k =
+    ap (λ (r : Operands). follow (asked_by r.frames r.tree) (λ gs n. run (λ e. e) room gs n ws)) (unwinds a 1 (Source m x ∷ fs) h k ∙ stays 1 (Source m x ∷ fs) a refl)
+
+filter_read : (room : ℕ) (m a c : Expression) (x : List ℕ) (fs : List Frame) (ws : List (List ℕ)) → IsFormed c → held room (spine (Filter m x a ∷ fs) c) (square_close ∷ ws) ≡ held room (record { frames = fs; tree = filtered m x a c }) ws
+filter_read room m a c x fs ws h =
+    ap (λ (r : Operands). follow (ended_by (λ e. e) r.frames r.tree) (λ gs n. run (λ e. e) room gs n ws)) (unwinds c 0 (Filter m x a ∷ fs) h (omega arith) ∙ stays 0 (Filter m x a ∷ fs) c refl)
+
+-- ---- tables
+
+pub open_curly : (room : ℕ) (fs : List Frame) (ws : List (List ℕ)) → wanting room fs (curly_open ∷ ws) ≡ follow (unkeyed room fs) (λ gs n. run (λ e. e) room gs n ws)
+open_curly room fs ws = rw no_leaf_curly
+
+pub unkeyed_in : (room : ℕ) (fs : List Frame) (ws : List (List ℕ)) → depth fs < room → follow (unkeyed room fs) (λ gs n. run (λ e. e) room gs n ws) ≡ run (λ e. e) room fs (Key []) ws
+unkeyed_in room fs ws h = rw (lt_true (depth fs) room h)
+
+empty_table : (room : ℕ) (fs : List Frame) (ws : List (List ℕ)) → run (λ e. e) room fs (Key []) (curly_close ∷ ws) ≡ held room (record { frames = fs; tree = table no_entries }) ws
+empty_table room fs ws = refl
+
+pub key_read : (room : ℕ) (ps : List (List ℕ × Expression)) (k : List ℕ) (fs : List Frame) (ws : List (List ℕ)) → is_key k ≡ true → depth fs < room → run (λ e. e) room fs (Key ps) (k ∷ colon ∷ ws) ≡ wanting room (Keyed ps k ∷ fs) ws
+key_read room ps k fs ws h low = rw h (nested_in room (Keyed ps k) fs ws low)
+
+-- entries in front of others
+abbrev pub entries_behind : List (List ℕ × Expression) → Entries → Entries
+entries_behind [] es = es
+entries_behind (p ∷ ps) es = entry p.0 p.1 (entries_behind ps es)
+
+entries_last : (ps : List (List ℕ × Expression)) (k : List ℕ) (e : Expression) → entries_of (ps ++ (k, e) ∷ []) ≡ entries_behind ps (entry k e no_entries)
+entries_last [] k e = refl
+entries_last (p ∷ ps) k e = ap (entry p.0 p.1) (entries_last ps k e)
+
+entries_more : (ps : List (List ℕ × Expression)) (k : List ℕ) (e : Expression) (es : Entries) → entries_behind (ps ++ (k, e) ∷ []) es ≡ entries_behind ps (entry k e es)
+entries_more [] k e es = refl
+entries_more (p ∷ ps) k e es = ap (entry p.0 p.1) (entries_more ps k e es)
+
+table_read : (room : ℕ) (ps : List (List ℕ × Expression)) (k : List ℕ) (e : Expression) (fs : List Frame) (ws : List (List ℕ)) → IsFormed e → held room (spine (Keyed ps k ∷ fs) e) (curly_close ∷ ws) ≡ held room (record { frames = fs; tree = table (entries_behind ps (entry k e no_entries)) }) ws
+table_read room ps k e fs ws h =
+    ap (λ (r : Operands). follow (braced_by (λ e. e) r.frames r.tree) (λ gs n. run (λ e. e) room gs n ws)) (unwinds e 0 (Keyed ps k ∷ fs) h (omega arith) ∙ stays 0 (Keyed ps k ∷ fs) e refl)
+    ∙ ap (λ es. held room (record { frames = fs; tree = table es }) ws) (entries_last ps k e)
+
+pub value_read : (room : ℕ) (ps : List (List ℕ × Expression)) (k : List ℕ) (e : Expression) (fs : List Frame) (ws : List (List ℕ)) → IsFormed e → held room (spine (Keyed ps k ∷ fs) e) (comma ∷ ws) ≡ run (λ e. e) room fs (Key (ps ++ (k, e) ∷ [])) ws
+value_read room ps k e fs ws h =
+    ap (λ (r : Operands). follow (parted_by r.frames r.tree) (λ gs n. run (λ e. e) room gs n ws)) (unwinds e 0 (Keyed ps k ∷ fs) h (omega arith) ∙ stays 0 (Keyed ps k ∷ fs) e refl)
+
+-- ---- all forms
+
+mutual
+  -- behind the signs of an expression its operations wait
+  pub reads : (e : Expression) (room : ℕ) (fs : List Frame) (rest : List (List ℕ)) → IsFormed e → wanted fs ≤ level e → depth fs + brackets e ≤ room → run (λ e. e) room fs Wanted (words_of e ++ rest) ≡ held room (spine fs e) rest
+  reads tall room fs rest h k low = absurd h
+  reads (leaf w) room fs rest h k low = leaf_read room w fs rest h
+  reads (bracketed e) room fs rest h k low =
+      ap (λ ws. wanting room fs (round_open ∷ ws)) (append_assoc (words_of e) (round_close ∷ []) rest)
+      ∙ open_round room fs (words_of e ++ round_close ∷ rest) (omega arith)
+      ∙ reads e room (Bracket ∷ fs) (round_close ∷ rest) h (omega arith) (omega arith)
+      ∙ round_read room e fs rest h
+  reads (before p e) room fs rest h k low = read_prefix room p fs (words_of e ++ rest) k ∙ reads e room (Behind p ∷ fs) rest h.1 h.0 (omega arith)
+  reads (between o a b) room fs rest h k low =
+      let high = h.0 in let more = h.2 in let left = own_le_left o in
+      ap (λ ws. wanting room fs ws) (append_assoc (words_of a) (operator_word o ∷ words_of b) rest)
+      ∙ reads a room fs (operator_word o ∷ (words_of b ++ rest)) h.1 (omega arith) (omega arith)
+      ∙ infix_read room o a fs (words_of b ++ rest) h.1 h.0 k
+      ∙ reads b room (Operand o a ∷ fs) rest h.3 (omega arith) (omega arith)
+  reads (choice a c b) room fs rest h k low =
+      let more = h.0 in let condition = h.2 in
+      ap (λ ws. wanting room fs ws) (append_assoc (words_of a) (if_word ∷ (words_of c ++ else_word ∷ words_of b)) rest)
+      ∙ reads a room fs (if_word ∷ ((words_of c ++ else_word ∷ words_of b) ++ rest)) h.1 (omega arith) (omega arith)
+      ∙ if_read room a fs ((words_of c ++ else_word ∷ words_of b) ++ rest) h.1 h.0 k
+      ∙ ap (λ ws. wanting room (Condition a ∷ fs) ws) (append_assoc (words_of c) (else_word ∷ words_of b) rest)
+      ∙ reads c room (Condition a ∷ fs) (else_word ∷ (words_of b ++ rest)) h.3 h.2 (omega arith)
+      ∙ else_read room a c fs (words_of b ++ rest) h.3 h.2
+      ∙ reads b room (Otherwise a c ∷ fs) rest h.4 (omega arith) (omega arith)
+  reads (index a i) room fs rest h k low =
+      ap (λ ws. wanting room fs ws) (append_assoc (words_of a) (square_open ∷ (words_of i ++ square_close ∷ [])) rest)
+      ∙ reads a room fs (square_open ∷ ((words_of i ++ square_close ∷ []) ++ rest)) h.1 (omega (arith, h.0)) (omega arith)
+      ∙ square_read room a fs ((words_of i ++ square_close ∷ []) ++ rest) h.1 h.0 (omega arith)
+      ∙ ap (λ ws. wanting room (Element a ∷ fs) ws) (append_assoc (words_of i) (square_close ∷ []) rest)
+      ∙ reads i room (Element a ∷ fs) (square_close ∷ rest) h.2 (omega arith) (omega arith)
+      ∙ end_read room a i fs rest h.2
+  reads (call f e) room fs rest h k low =
+      ap (λ ws. wanting room fs (function_word f ∷ round_open ∷ ws)) (append_assoc (words_of e) (round_close ∷ []) rest)
+      ∙ open_call room f fs (words_of e ++ round_close ∷ rest)
+      ∙ nested_in room (Member f) fs (words_of e ++ round_close ∷ rest) (omega arith)
+      ∙ reads e room (Member f ∷ fs) (round_close ∷ rest) h (omega arith) (omega arith)
+      ∙ call_read room f e fs rest h
+  reads (span a b) room fs rest h k low =
+      ap (λ ws. wanting room fs (function_word Range ∷ round_open ∷ ws)) (append_assoc (words_of a) (comma ∷ (words_of b ++ round_close ∷ [])) rest)
+      ∙ open_call room Range fs (words_of a ++ comma ∷ ((words_of b ++ round_close ∷ []) ++ rest))
+      ∙ nested_in room (Member Range) fs (words_of a ++ comma ∷ ((words_of b ++ round_close ∷ []) ++ rest)) (omega arith)
+      ∙ reads a room (Member Range ∷ fs) (comma ∷ ((words_of b ++ round_close ∷ []) ++ rest)) h.0 (omega arith) (omega arith)
+      ∙ bound_read room a fs ((words_of b ++ round_close ∷ []) ++ rest) h.0
+      ∙ ap (λ ws. wanting room (Bound a ∷ fs) ws) (append_assoc (words_of b) (round_close ∷ []) rest)
+      ∙ reads b room (Bound a ∷ fs) (round_close ∷ rest) h.1 (omega arith) (omega arith)
+      ∙ span_read room a b fs rest h.1
+  reads (list no_members) room fs rest h k low =
+      open_square room fs (square_close ∷ rest)
+      ∙ nested_in room (Listed []) fs (square_close ∷ rest) (omega arith)
+      ∙ empty_read room fs rest
+  reads (list (member e ms)) room fs rest h k low =
+      ap (λ ws. wanting room fs (square_open ∷ ws)) (append_assoc (words_of e ++ more_members ms) (square_close ∷ []) rest ∙ append_assoc (words_of e) (more_members ms) (square_close ∷ rest))
+      ∙ open_square room fs (words_of e ++ (more_members ms ++ square_close ∷ rest))
+      ∙ nested_in room (Listed []) fs (words_of e ++ (more_members ms ++ square_close ∷ rest)) (omega arith)
+      ∙ reads e room (Listed [] ∷ fs) (more_members ms ++ square_close ∷ rest) h.0 (omega arith) (omega arith)
+      ∙ reads_more ms room [] e fs rest h.0 h.1 (omega arith)
+  reads (each e x a) room fs rest h k low =
+      let some = h.2 in
+      ap (λ ws. wanting room fs (square_open ∷ ws)) (append_assoc (words_of e) (for_word ∷ x ∷ in_word ∷ (words_of a ++ square_close ∷ [])) rest)
+      ∙ open_square room fs (words_of e ++ for_word ∷ x ∷ in_word ∷ ((words_of a ++ square_close ∷ []) ++ rest))
+      ∙ nested_in room (Listed []) fs (words_of e ++ for_word ∷ x ∷ in_word ∷ ((words_of a ++ square_close ∷ []) ++ rest)) (omega arith)
+      ∙ reads e room (Listed [] ∷ fs) (for_word ∷ x ∷ in_word ∷ ((words_of a ++ square_close ∷ []) ++ rest)) h.0 (omega arith) (omega arith)
+      ∙ source_read room e x fs ((words_of a ++ square_close ∷ []) ++ rest) h.0 h.1 (omega arith)
+      ∙ ap (λ ws. wanting room (Source e x ∷ fs) ws) (append_assoc (words_of a) (square_close ∷ []) rest)
+      ∙ reads a room (Source e x ∷ fs) (square_close ∷ rest) h.3 h.2 (omega arith)
+      ∙ each_read room e a x fs rest h.3
+  reads (filtered e x a c) room fs rest h k low =
+      ap (λ ws. wanting room fs (square_open ∷ ws)) (append_assoc (words_of e) (for_word ∷ x ∷ in_word ∷ (words_of a ++ if_word ∷ (words_of c ++ square_close ∷ []))) rest)
+      ∙ open_square room fs (words_of e ++ for_word ∷ x ∷ in_word ∷ ((words_of a ++ if_word ∷ (words_of c ++ square_close ∷ [])) ++ rest))
+      ∙ nested_in room (Listed []) fs (words_of e ++ for_word ∷ x ∷ in_word ∷ ((words_of a ++ if_word ∷ (words_of c ++ square_close ∷ [])) ++ rest)) (omega arith)
+      ∙ reads e room (Listed [] ∷ fs) (for_word ∷ x ∷ in_word ∷ ((words_of a ++ if_word ∷ (words_of c ++ square_close ∷ [])) ++ rest)) h.0 (omega arith) (omega arith)
+      ∙ source_read room e x fs ((words_of a ++ if_word ∷ (words_of c ++ square_close ∷ [])) ++ rest) h.0 h.1 (omega arith)
+      ∙ ap (λ ws. wanting room (Source e x ∷ fs) ws) (append_assoc (words_of a) (if_word ∷ (words_of c ++ square_close ∷ [])) rest)
+      ∙ reads a room (Source e x ∷ fs) (if_word ∷ ((words_of c ++ square_close ∷ []) ++ rest)) h.3 h.2 (omega arith)
+      ∙ pick_read room e a x fs ((words_of c ++ square_close ∷ []) ++ rest) h.3 h.2
+      ∙ ap (λ ws. wanting room (Filter e x a ∷ fs) ws) (append_assoc (words_of c) (square_close ∷ []) rest)
+      ∙ reads c room (Filter e x a ∷ fs) (square_close ∷ rest) h.5 h.4 (omega arith)
+      ∙ filter_read room e a c x fs rest h.5
+  reads (table no_entries) room fs rest h k low =
+      open_curly room fs (curly_close ∷ rest)
+      ∙ unkeyed_in room fs (curly_close ∷ rest) (omega arith)
+      ∙ empty_table room fs rest
+  reads (table (entry w e es)) room fs rest h k low =
+      ap (λ ws. wanting room fs (curly_open ∷ w ∷ colon ∷ ws)) (append_assoc (words_of e ++ more_entries es) (curly_close ∷ []) rest ∙ append_assoc (words_of e) (more_entries es) (curly_close ∷ rest))
+      ∙ open_curly room fs (w ∷ colon ∷ (words_of e ++ (more_entries es ++ curly_close ∷ rest)))
+      ∙ unkeyed_in room fs (w ∷ colon ∷ (words_of e ++ (more_entries es ++ curly_close ∷ rest))) (omega arith)
+      ∙ key_read room [] w fs (words_of e ++ (more_entries es ++ curly_close ∷ rest)) h.0 (omega arith)
+      ∙ reads e room (Keyed [] w ∷ fs) (more_entries es ++ curly_close ∷ rest) h.1 (omega arith) (omega arith)
+      ∙ reads_entries es room [] w e fs rest h.1 h.2 (omega arith)
+
+  -- behind the first member of a list
+  pub reads_more : (ms : Members) (room : ℕ) (es : List Expression) (e : Expression) (fs : List Frame) (rest : List (List ℕ)) → IsFormed e → AreFormed ms → suc (depth fs) + members_brackets ms ≤ room → held room (spine (Listed es ∷ fs) e) (more_members ms ++ square_close ∷ rest) ≡ held room (record { frames = fs; tree = list (behind es (member e ms)) }) rest
+  reads_more no_members room es e fs rest h k low = list_read room es e fs rest h
+  reads_more (member a ms) room es e fs rest h k low =
+      ap (λ ws. held room (spine (Listed es ∷ fs) e) (comma ∷ ws)) (append_assoc (words_of a) (more_members ms) (square_close ∷ rest))
+      ∙ comma_read room es e fs (words_of a ++ (more_members ms ++ square_close ∷ rest)) h
+      ∙ reads a room (Listed (es ++ e ∷ []) ∷ fs) (more_members ms ++ square_close ∷ rest) k.0 (omega arith) (omega arith)
+      ∙ reads_more ms room (es ++ e ∷ []) a fs rest k.0 k.1 (omega arith)
+      ∙ ap (λ l. held room (record { frames = fs; tree = list l }) rest) (behind_more es e (member a ms))
+
+  -- behind the first member of a table
+  pub reads_entries : (es : Entries) (room : ℕ) (ps : List (List ℕ × Expression)) (k : List ℕ) (e : Expression) (fs : List Frame) (rest : List (List ℕ)) → IsFormed e → HaveFormed es → suc (depth fs) + entries_brackets es ≤ room → held room (spine (Keyed ps k ∷ fs) e) (more_entries es ++ curly_close ∷ rest) ≡ held room (record { frames = fs; tree = table (entries_behind ps (entry k e es)) }) rest
+  reads_entries no_entries room ps k e fs rest h f low = table_read room ps k e fs rest h
+  reads_entries (entry w a es) room ps k e fs rest h f low =
+      ap (λ ws. held room (spine (Keyed ps k ∷ fs) e) (comma ∷ w ∷ colon ∷ ws)) (append_assoc (words_of a) (more_entries es) (curly_close ∷ rest))
+      ∙ value_read room ps k e fs (w ∷ colon ∷ (words_of a ++ (more_entries es ++ curly_close ∷ rest))) h
+      ∙ key_read room (ps ++ (k, e) ∷ []) w fs (words_of a ++ (more_entries es ++ curly_close ∷ rest)) f.0 (omega arith)
+      ∙ reads a room (Keyed (ps ++ (k, e) ∷ []) w ∷ fs) (more_entries es ++ curly_close ∷ rest) f.1 (omega arith) (omega arith)
+      ∙ reads_entries es room (ps ++ (k, e) ∷ []) w a fs rest f.1 f.2 (omega arith)
+      ∙ ap (λ l. held room (record { frames = fs; tree = table l }) rest) (entries_more ps k e (entry w a es))
 
 -- the signs of an expression whose brackets have room are read as it
 pub complete : (room : ℕ) (e : Expression) → IsFormed e → brackets e ≤ room → run (λ e. e) room [] Wanted (words_of e) ≡ read e

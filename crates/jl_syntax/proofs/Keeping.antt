@@ -1,21 +1,22 @@
 -- A reader that keeps no tree higher than 128 reads the same, but for those.
-use Rattle.std.proofs.Common.{◌≡◌, ℕ, suc, ◌+◌, ◌<◌, ◌≤◌, max, min, Bool, true, false, List, [], ◌∷◌, map, Option, Some, None, refl, sym, ap, ap₂, ◌∙◌, arith, inl, inr}
+use Rattle.std.proofs.Common.{◌≡◌, ℕ, suc, ◌<◌, ◌≤◌, max, min, Bool, true, false, List, [], ◌∷◌, ◌++◌, Option, Some, None, refl, sym, ap, ap₂, ◌∙◌, arith, inl, inr}
 use Rattle.std.specs.Prelude.{nat_le, nat_lt, if◌then◌else◌}
 use Rattle.std.proofs.lemmas.Bool.{cases_lt}
-use Rattle.jl_syntax.specs.declared.operators.Operator.{Operator}
-use Rattle.jl_syntax.specs.declared.operators.Prefix.{Prefix}
-use Rattle.jl_syntax.specs.declared.operators.Function.{Function}
-use Rattle.jl_syntax.specs.declared.operators.Function.TheVariants.{Len, Sum, Min, Max, Range, Array}
+use Rattle.jl_signs.specs.declared.operators.Operator.{Operator}
+use Rattle.jl_signs.specs.declared.operators.Prefix.{Prefix}
+use Rattle.jl_signs.specs.declared.operators.Function.{Function}
+use Rattle.jl_signs.specs.declared.operators.Function.TheVariants.{Len, Sum, Min, Max, Range, Array}
 use Rattle.jl_syntax.specs.declared.joint.Joint.{Joint}
-use Rattle.jl_syntax.specs.declared.joint.Joint.TheVariants.{Infix, Opening, If, Else, Closing, Ending, Comma, Strange}
+use Rattle.jl_syntax.specs.declared.joint.Joint.TheVariants.{Infix, Opening, If, Else, For, Closing, Ending, Braced, Comma, Strange}
 use Rattle.jl_syntax.specs.declared.machine.Frame.{Frame}
-use Rattle.jl_syntax.specs.declared.machine.Frame.TheVariants.{Bracket, Behind, Operand, Condition, Otherwise, Element, Member, Bound}
+use Rattle.jl_syntax.specs.declared.machine.Frame.TheVariants.{Bracket, Behind, Operand, Condition, Otherwise, Element, Member, Bound, Listed, Keyed, Source, Filter}
 use Rattle.jl_syntax.specs.declared.machine.Mode.{Mode}
-use Rattle.jl_syntax.specs.declared.machine.Mode.TheVariants.{Wanted, Held, Calling}
-use Rattle.jl_syntax.specs.Words.{is_leaf}
-use Rattle.jl_syntax.specs.Marks.{is_mark, prefix_of, function_of, own_level, left_level, prefix_level}
-use Rattle.jl_syntax.specs.Trees.{Expression, tall, leaf, bracketed, before, between, choice, index, call, span, height}
-use Rattle.jl_syntax.specs.Machine.{joint_of, wanted, is_bracket, depth, binds, operated, Operands, reduced, Step, going, bad, deep, begun, nested, prefixed, infixed, asked, elsed_by, closed_by, ended_by, member_behind, parted_by, called_or, gone_on, step, Read, read, broken, nested_deep, whole_by, finished, follow, run, kept}
+use Rattle.jl_syntax.specs.declared.machine.Mode.TheVariants.{Wanted, Held, Calling, Key, Colon, Each, Naming}
+use Rattle.jl_signs.specs.Words.{is_leaf, is_identifier, is_key}
+use Rattle.std.specs.Str.{bytes_eq}
+use Rattle.jl_signs.specs.Marks.{is_mark, in_word, prefix_of, function_of, own_level, left_level, prefix_level}
+use Rattle.jl_syntax.specs.Trees.{Expression, tall, leaf, bracketed, before, between, choice, index, call, span, list, each, filtered, table, members_of, members_height, no_entries, entries_of, entries_height, height}
+use Rattle.jl_syntax.specs.Machine.{joint_of, wanted, is_bracket, depth, binds, operated, Operands, reduced, Step, going, bad, deep, begun, opened_or, emptied, unkeyed, nested, prefixed, infixed, conditioned, top_is_source, picked_by, asked_by, looped_by, elsed_by, closed_by, ended_by, braced_by, member_behind, parted_by, called_or, no_key, gone_on, step, Read, read, broken, nested_deep, whole_by, finished, follow, run, kept}
 
 -- ---- what is kept of a tree
 
@@ -60,6 +61,58 @@ kept_choice a c b = elim (cases_lt 128 (max (height a) (max (height c) (height b
   | inr low ↦ ap (λ x. kept (choice x (kept c) (kept b))) (kept_low a (omega arith)) ∙ ap₂ (λ x y. kept (choice a x y)) (kept_low c (omega arith)) (kept_low b (omega arith))
 ]
 
+kept_filtered : (m a c : Expression) (x : List ℕ) → kept (filtered (kept m) x (kept a) (kept c)) ≡ kept (filtered m x a c)
+kept_filtered m a c x = elim (cases_lt 128 (max (height m) (max (height a) (height c)))) [
+  | inl high ↦ let z = kept_height m in let w = kept_height a in let v = kept_height c in both_tall (filtered (kept m) x (kept a) (kept c)) (filtered m x a c) (omega arith) (omega arith)
+  | inr low ↦ ap (λ y. kept (filtered y x (kept a) (kept c))) (kept_low m (omega arith)) ∙ ap₂ (λ y z. kept (filtered m x y z)) (kept_low a (omega arith)) (kept_low c (omega arith))
+]
+
+-- ---- what is kept of members
+
+abbrev pub cut_all : List Expression → List Expression
+cut_all [] = []
+cut_all (e ∷ es) = kept e ∷ cut_all es
+
+abbrev pub cut_entries : List (List ℕ × Expression) → List (List ℕ × Expression)
+cut_entries [] = []
+cut_entries (p ∷ ps) = (p.0, kept p.1) ∷ cut_entries ps
+
+cut_more : (es : List Expression) (e : Expression) → cut_all es ++ kept e ∷ [] ≡ cut_all (es ++ e ∷ [])
+cut_more [] e = refl
+cut_more (a ∷ es) e = ap (λ y. kept a ∷ y) (cut_more es e)
+
+entries_more : (ps : List (List ℕ × Expression)) (k : List ℕ) (e : Expression) → cut_entries ps ++ (k, kept e) ∷ [] ≡ cut_entries (ps ++ (k, e) ∷ [])
+entries_more [] k e = refl
+entries_more (p ∷ ps) k e = ap (λ y. (p.0, kept p.1) ∷ y) (entries_more ps k e)
+
+all_height : (es : List Expression) → members_height (members_of (cut_all es)) ≡ min (members_height (members_of es)) 129
+all_height [] = omega arith
+all_height (e ∷ es) = let x = kept_height e in let y = all_height es in omega arith
+
+entries_cut_height : (ps : List (List ℕ × Expression)) → entries_height (entries_of (cut_entries ps)) ≡ min (entries_height (entries_of ps)) 129
+entries_cut_height [] = omega arith
+entries_cut_height (p ∷ ps) = let x = kept_height p.1 in let y = entries_cut_height ps in omega arith
+
+all_low : (es : List Expression) → members_height (members_of es) ≤ 128 → cut_all es ≡ es
+all_low [] h = refl
+all_low (e ∷ es) h = ap₂ (λ x y. x ∷ y) (kept_low e (omega arith)) (all_low es (omega arith))
+
+entries_cut_low : (ps : List (List ℕ × Expression)) → entries_height (entries_of ps) ≤ 128 → cut_entries ps ≡ ps
+entries_cut_low [] h = refl
+entries_cut_low (p ∷ ps) h = ap₂ (λ x y. (p.0, x) ∷ y) (kept_low p.1 (omega arith)) (entries_cut_low ps (omega arith))
+
+kept_list : (es : List Expression) → kept (list (members_of (cut_all es))) ≡ kept (list (members_of es))
+kept_list es = elim (cases_lt 128 (members_height (members_of es))) [
+  | inl high ↦ let x = all_height es in both_tall (list (members_of (cut_all es))) (list (members_of es)) (omega arith) (omega arith)
+  | inr low ↦ ap (λ y. kept (list (members_of y))) (all_low es low)
+]
+
+kept_table : (ps : List (List ℕ × Expression)) → kept (table (entries_of (cut_entries ps))) ≡ kept (table (entries_of ps))
+kept_table ps = elim (cases_lt 128 (entries_height (entries_of ps))) [
+  | inl high ↦ let x = entries_cut_height ps in both_tall (table (entries_of (cut_entries ps))) (table (entries_of ps)) (omega arith) (omega arith)
+  | inr low ↦ ap (λ y. kept (table (entries_of y))) (entries_cut_low ps low)
+]
+
 -- ---- what is kept of what waits
 
 abbrev pub cut_frame : Frame → Frame
@@ -71,6 +124,10 @@ cut_frame (Otherwise a c) = Otherwise (kept a) (kept c)
 cut_frame (Element a) = Element (kept a)
 cut_frame (Member f) = Member f
 cut_frame (Bound a) = Bound (kept a)
+cut_frame (Listed es) = Listed (cut_all es)
+cut_frame (Keyed es k) = Keyed (cut_entries es) k
+cut_frame (Source m x) = Source (kept m) x
+cut_frame (Filter m x a) = Filter (kept m) x (kept a)
 
 abbrev pub cut_frames : List Frame → List Frame
 cut_frames [] = []
@@ -80,6 +137,10 @@ abbrev pub cut_mode : Mode → Mode
 cut_mode Wanted = Wanted
 cut_mode (Held e) = Held (kept e)
 cut_mode (Calling f) = Calling f
+cut_mode (Key es) = Key (cut_entries es)
+cut_mode (Colon es k) = Colon (cut_entries es) k
+cut_mode (Each m) = Each (kept m)
+cut_mode (Naming m x) = Naming (kept m) x
 
 abbrev pub cut_step : Step → Step
 cut_step (going fs m) = going (cut_frames fs) (cut_mode m)
@@ -104,6 +165,10 @@ wanted_cut (Otherwise a c ∷ fs) = refl
 wanted_cut (Element a ∷ fs) = refl
 wanted_cut (Member f ∷ fs) = refl
 wanted_cut (Bound a ∷ fs) = refl
+wanted_cut (Listed es ∷ fs) = refl
+wanted_cut (Keyed es k ∷ fs) = refl
+wanted_cut (Source m x ∷ fs) = refl
+wanted_cut (Filter m x a ∷ fs) = refl
 
 bracket_cut : (f : Frame) → is_bracket (cut_frame f) ≡ is_bracket f
 bracket_cut Bracket = refl
@@ -114,6 +179,10 @@ bracket_cut (Otherwise a c) = refl
 bracket_cut (Element a) = refl
 bracket_cut (Member f) = refl
 bracket_cut (Bound a) = refl
+bracket_cut (Listed es) = refl
+bracket_cut (Keyed es k) = refl
+bracket_cut (Source m x) = refl
+bracket_cut (Filter m x a) = refl
 
 depth_cut : (fs : List Frame) → depth (cut_frames fs) ≡ depth fs
 depth_cut [] = refl
@@ -128,6 +197,10 @@ binds_cut l (Otherwise a c) = refl
 binds_cut l (Element a) = refl
 binds_cut l (Member f) = refl
 binds_cut l (Bound a) = refl
+binds_cut l (Listed es) = refl
+binds_cut l (Keyed es k) = refl
+binds_cut l (Source m x) = refl
+binds_cut l (Filter m x a) = refl
 
 operated_cut : (f : Frame) (e : Expression) → operated kept (cut_frame f) (kept e) ≡ kept (operated (λ e. e) f e)
 operated_cut Bracket e = refl
@@ -138,6 +211,10 @@ operated_cut (Otherwise a c) e = kept_choice a c e
 operated_cut (Element a) e = refl
 operated_cut (Member f) e = refl
 operated_cut (Bound a) e = refl
+operated_cut (Listed es) e = refl
+operated_cut (Keyed es k) e = refl
+operated_cut (Source m x) e = refl
+operated_cut (Filter m x a) e = refl
 
 operands_if : (b c : Bool) (x : Operands) (y z : Operands) → b ≡ c → x ≡ cut_operands y → (if b then x else cut_operands z) ≡ cut_operands (if c then y else z)
 operands_if b true x y z e h = rw e h
@@ -166,16 +243,89 @@ called_cut : (fs : List Frame) (o : Option Function) (p : Option Prefix) → cal
 called_cut fs None p = prefixed_cut fs p
 called_cut fs (Some f) p = refl
 
+emptied_cut : (fs : List Frame) → emptied (cut_frames fs) ≡ cut_step (emptied fs)
+emptied_cut [] = refl
+emptied_cut (Bracket ∷ fs) = refl
+emptied_cut (Behind p ∷ fs) = refl
+emptied_cut (Operand o a ∷ fs) = refl
+emptied_cut (Condition a ∷ fs) = refl
+emptied_cut (Otherwise a c ∷ fs) = refl
+emptied_cut (Element a ∷ fs) = refl
+emptied_cut (Member f ∷ fs) = refl
+emptied_cut (Bound a ∷ fs) = refl
+emptied_cut (Listed [] ∷ fs) = refl
+emptied_cut (Listed (e ∷ es) ∷ fs) = refl
+emptied_cut (Keyed es k ∷ fs) = refl
+emptied_cut (Source m x ∷ fs) = refl
+emptied_cut (Filter m x a ∷ fs) = refl
+
+unkeyed_cut : (room : ℕ) (fs : List Frame) → unkeyed room (cut_frames fs) ≡ cut_step (unkeyed room fs)
+unkeyed_cut room fs = step_if (nat_lt (depth (cut_frames fs)) room) (nat_lt (depth fs) room) _ _ (going fs (Key [])) deep (ap (λ n. nat_lt n room) (depth_cut fs)) refl refl
+
+opened_cut : (room : ℕ) (fs : List Frame) (w : List ℕ) → opened_or room (cut_frames fs) w ≡ cut_step (opened_or room fs w)
+opened_cut room fs w =
+    step_if (is_mark 40 w) (is_mark 40 w) _ _ (nested room Bracket fs) _ refl (nested_cut room Bracket fs)
+    (step_if (is_mark 91 w) (is_mark 91 w) _ _ (nested room (Listed []) fs) _ refl (nested_cut room (Listed []) fs)
+    (step_if (is_mark 93 w) (is_mark 93 w) _ _ (emptied fs) _ refl (emptied_cut fs)
+    (step_if (is_mark 123 w) (is_mark 123 w) _ _ (unkeyed room fs) (called_or fs (function_of w) (prefix_of w)) refl (unkeyed_cut room fs) (called_cut fs (function_of w) (prefix_of w)))))
+
 begun_cut : (room : ℕ) (fs : List Frame) (w : List ℕ) → begun room (cut_frames fs) w ≡ cut_step (begun room fs w)
-begun_cut room fs w =
-    step_if (is_leaf w) (is_leaf w) _ _ (going fs (Held (leaf w))) _ refl refl
-    (step_if (is_mark 40 w) (is_mark 40 w) _ _ (nested room Bracket fs) (called_or fs (function_of w) (prefix_of w)) refl (nested_cut room Bracket fs) (called_cut fs (function_of w) (prefix_of w)))
+begun_cut room fs w = step_if (is_leaf w) (is_leaf w) _ _ (going fs (Held (leaf w))) (opened_or room fs w) refl refl (opened_cut room fs w)
 
 infixed_cut : (o : Operator) (r : Operands) → infixed o (cut_operands r) ≡ cut_step (infixed o r)
 infixed_cut o r = step_if (nat_le (wanted (cut_frames r.frames)) (own_level o)) (nat_le (wanted r.frames) (own_level o)) _ _ (going (Operand o r.tree ∷ r.frames) Wanted) bad (ap (λ n. nat_le n (own_level o)) (wanted_cut r.frames)) refl refl
 
-asked_cut : (r : Operands) → asked (cut_operands r) ≡ cut_step (asked r)
-asked_cut r = step_if (nat_le (wanted (cut_frames r.frames)) 0) (nat_le (wanted r.frames) 0) _ _ (going (Condition r.tree ∷ r.frames) Wanted) bad (ap (λ n. nat_le n 0) (wanted_cut r.frames)) refl refl
+conditioned_cut : (fs : List Frame) (e : Expression) → conditioned (cut_frames fs) (kept e) ≡ cut_step (conditioned fs e)
+conditioned_cut fs e = step_if (nat_le (wanted (cut_frames fs)) 0) (nat_le (wanted fs) 0) _ _ (going (Condition e ∷ fs) Wanted) bad (ap (λ n. nat_le n 0) (wanted_cut fs)) refl refl
+
+picked_cut : (fs : List Frame) (e : Expression) → picked_by (cut_frames fs) (kept e) ≡ cut_step (picked_by fs e)
+picked_cut [] e = refl
+picked_cut (Bracket ∷ fs) e = refl
+picked_cut (Behind p ∷ fs) e = refl
+picked_cut (Operand o a ∷ fs) e = refl
+picked_cut (Condition a ∷ fs) e = refl
+picked_cut (Otherwise a c ∷ fs) e = refl
+picked_cut (Element a ∷ fs) e = refl
+picked_cut (Member f ∷ fs) e = refl
+picked_cut (Bound a ∷ fs) e = refl
+picked_cut (Listed es ∷ fs) e = refl
+picked_cut (Keyed es k ∷ fs) e = refl
+picked_cut (Source m x ∷ fs) e = refl
+picked_cut (Filter m x a ∷ fs) e = refl
+
+source_cut : (fs : List Frame) → top_is_source (cut_frames fs) ≡ top_is_source fs
+source_cut [] = refl
+source_cut (Bracket ∷ fs) = refl
+source_cut (Behind p ∷ fs) = refl
+source_cut (Operand o a ∷ fs) = refl
+source_cut (Condition a ∷ fs) = refl
+source_cut (Otherwise a c ∷ fs) = refl
+source_cut (Element a ∷ fs) = refl
+source_cut (Member f ∷ fs) = refl
+source_cut (Bound a ∷ fs) = refl
+source_cut (Listed es ∷ fs) = refl
+source_cut (Keyed es k ∷ fs) = refl
+source_cut (Source m x ∷ fs) = refl
+source_cut (Filter m x a ∷ fs) = refl
+
+asked_cut : (fs : List Frame) (e : Expression) → asked_by (cut_frames fs) (kept e) ≡ cut_step (asked_by fs e)
+asked_cut fs e = step_if (top_is_source (cut_frames fs)) (top_is_source fs) _ _ (picked_by fs e) (conditioned fs e) (source_cut fs) (picked_cut fs e) (conditioned_cut fs e)
+
+looped_cut : (fs : List Frame) (e : Expression) → looped_by (cut_frames fs) (kept e) ≡ cut_step (looped_by fs e)
+looped_cut [] e = refl
+looped_cut (Bracket ∷ fs) e = refl
+looped_cut (Behind p ∷ fs) e = refl
+looped_cut (Operand o a ∷ fs) e = refl
+looped_cut (Condition a ∷ fs) e = refl
+looped_cut (Otherwise a c ∷ fs) e = refl
+looped_cut (Element a ∷ fs) e = refl
+looped_cut (Member f ∷ fs) e = refl
+looped_cut (Bound a ∷ fs) e = refl
+looped_cut (Listed [] ∷ fs) e = refl
+looped_cut (Listed (a ∷ es) ∷ fs) e = refl
+looped_cut (Keyed es k ∷ fs) e = refl
+looped_cut (Source m x ∷ fs) e = refl
+looped_cut (Filter m x a ∷ fs) e = refl
 
 elsed_cut : (fs : List Frame) (e : Expression) → elsed_by (cut_frames fs) (kept e) ≡ cut_step (elsed_by fs e)
 elsed_cut [] e = refl
@@ -187,6 +337,10 @@ elsed_cut (Otherwise a c ∷ fs) e = refl
 elsed_cut (Element a ∷ fs) e = refl
 elsed_cut (Member f ∷ fs) e = refl
 elsed_cut (Bound a ∷ fs) e = refl
+elsed_cut (Listed es ∷ fs) e = refl
+elsed_cut (Keyed es k ∷ fs) e = refl
+elsed_cut (Source m x ∷ fs) e = refl
+elsed_cut (Filter m x a ∷ fs) e = refl
 
 closed_cut : (fs : List Frame) (e : Expression) → closed_by kept (cut_frames fs) (kept e) ≡ cut_step (closed_by (λ e. e) fs e)
 closed_cut [] e = refl
@@ -198,6 +352,10 @@ closed_cut (Otherwise a c ∷ fs) e = refl
 closed_cut (Element a ∷ fs) e = refl
 closed_cut (Member f ∷ fs) e = ap (λ t. going (cut_frames fs) (Held t)) (kept_one (call f) (λ e. refl) e)
 closed_cut (Bound a ∷ fs) e = ap (λ t. going (cut_frames fs) (Held t)) (kept_two span (λ a b. refl) a e)
+closed_cut (Listed es ∷ fs) e = refl
+closed_cut (Keyed es k ∷ fs) e = refl
+closed_cut (Source m x ∷ fs) e = refl
+closed_cut (Filter m x a ∷ fs) e = refl
 
 ended_cut : (fs : List Frame) (e : Expression) → ended_by kept (cut_frames fs) (kept e) ≡ cut_step (ended_by (λ e. e) fs e)
 ended_cut [] e = refl
@@ -208,7 +366,26 @@ ended_cut (Condition a ∷ fs) e = refl
 ended_cut (Otherwise a c ∷ fs) e = refl
 ended_cut (Member f ∷ fs) e = refl
 ended_cut (Bound a ∷ fs) e = refl
+ended_cut (Listed es ∷ fs) e = ap (λ t. going (cut_frames fs) (Held t)) (ap (λ y. kept (list (members_of y))) (cut_more es e) ∙ kept_list (es ++ e ∷ []))
+ended_cut (Keyed es k ∷ fs) e = refl
+ended_cut (Source m x ∷ fs) e = ap (λ t. going (cut_frames fs) (Held t)) (kept_two (λ a b. each a x b) (λ a b. refl) m e)
+ended_cut (Filter m x a ∷ fs) e = ap (λ t. going (cut_frames fs) (Held t)) (kept_filtered m a e x)
 ended_cut (Element a ∷ fs) e = ap (λ t. going (cut_frames fs) (Held t)) (kept_two index (λ a b. refl) a e)
+
+braced_cut : (fs : List Frame) (e : Expression) → braced_by kept (cut_frames fs) (kept e) ≡ cut_step (braced_by (λ e. e) fs e)
+braced_cut [] e = refl
+braced_cut (Bracket ∷ fs) e = refl
+braced_cut (Behind p ∷ fs) e = refl
+braced_cut (Operand o a ∷ fs) e = refl
+braced_cut (Condition a ∷ fs) e = refl
+braced_cut (Otherwise a c ∷ fs) e = refl
+braced_cut (Element a ∷ fs) e = refl
+braced_cut (Member f ∷ fs) e = refl
+braced_cut (Bound a ∷ fs) e = refl
+braced_cut (Listed es ∷ fs) e = refl
+braced_cut (Keyed es k ∷ fs) e = ap (λ t. going (cut_frames fs) (Held t)) (ap (λ y. kept (table (entries_of y))) (entries_more es k e) ∙ kept_table (es ++ (k, e) ∷ []))
+braced_cut (Source m x ∷ fs) e = refl
+braced_cut (Filter m x a ∷ fs) e = refl
 
 member_cut : (f : Function) (fs : List Frame) (e : Expression) → member_behind f (cut_frames fs) (kept e) ≡ cut_step (member_behind f fs e)
 member_cut Len fs e = refl
@@ -228,20 +405,34 @@ parted_cut (Otherwise a c ∷ fs) e = refl
 parted_cut (Element a ∷ fs) e = refl
 parted_cut (Member f ∷ fs) e = member_cut f fs e
 parted_cut (Bound a ∷ fs) e = refl
+parted_cut (Listed es ∷ fs) e = ap (λ y. going (Listed y ∷ cut_frames fs) Wanted) (cut_more es e)
+parted_cut (Keyed es k ∷ fs) e = ap (λ y. going (cut_frames fs) (Key y)) (entries_more es k e)
+parted_cut (Source m x ∷ fs) e = refl
+parted_cut (Filter m x a ∷ fs) e = refl
 
 gone_cut : (room : ℕ) (fs : List Frame) (e : Expression) (j : Joint) → gone_on kept room (cut_frames fs) (kept e) j ≡ cut_step (gone_on (λ e. e) room fs e j)
 gone_cut room fs e (Infix o) = ap (infixed o) (reduced_cut (left_level o) fs e) ∙ infixed_cut o (reduced (λ e. e) (left_level o) fs e)
 gone_cut room fs e Opening = nested_cut room (Element e) fs
-gone_cut room fs e If = ap asked (reduced_cut 1 fs e) ∙ asked_cut (reduced (λ e. e) 1 fs e)
+gone_cut room fs e If = ap (λ (r : Operands). asked_by r.frames r.tree) (reduced_cut 1 fs e) ∙ asked_cut (reduced (λ e. e) 1 fs e).frames (reduced (λ e. e) 1 fs e).tree
 gone_cut room fs e Else = ap (λ (r : Operands). elsed_by r.frames r.tree) (reduced_cut 1 fs e) ∙ elsed_cut (reduced (λ e. e) 1 fs e).frames (reduced (λ e. e) 1 fs e).tree
+gone_cut room fs e For = ap (λ (r : Operands). looped_by r.frames r.tree) (reduced_cut 0 fs e) ∙ looped_cut (reduced (λ e. e) 0 fs e).frames (reduced (λ e. e) 0 fs e).tree
 gone_cut room fs e Closing = ap (λ (r : Operands). closed_by kept r.frames r.tree) (reduced_cut 0 fs e) ∙ closed_cut (reduced (λ e. e) 0 fs e).frames (reduced (λ e. e) 0 fs e).tree
 gone_cut room fs e Ending = ap (λ (r : Operands). ended_by kept r.frames r.tree) (reduced_cut 0 fs e) ∙ ended_cut (reduced (λ e. e) 0 fs e).frames (reduced (λ e. e) 0 fs e).tree
+gone_cut room fs e Braced = ap (λ (r : Operands). braced_by kept r.frames r.tree) (reduced_cut 0 fs e) ∙ braced_cut (reduced (λ e. e) 0 fs e).frames (reduced (λ e. e) 0 fs e).tree
 gone_cut room fs e Comma = ap (λ (r : Operands). parted_by r.frames r.tree) (reduced_cut 0 fs e) ∙ parted_cut (reduced (λ e. e) 0 fs e).frames (reduced (λ e. e) 0 fs e).tree
 gone_cut room fs e Strange = refl
+
+no_key_cut : (fs : List Frame) (es : List (List ℕ × Expression)) (w : List ℕ) → no_key (cut_frames fs) (cut_entries es) w ≡ cut_step (no_key fs es w)
+no_key_cut fs [] w = step_if (is_mark 125 w) (is_mark 125 w) _ _ (going fs (Held (table no_entries))) bad refl refl refl
+no_key_cut fs (p ∷ ps) w = refl
 
 step_cut : (room : ℕ) (fs : List Frame) (m : Mode) (w : List ℕ) → step kept room (cut_frames fs) (cut_mode m) w ≡ cut_step (step (λ e. e) room fs m w)
 step_cut room fs Wanted w = begun_cut room fs w
 step_cut room fs (Calling f) w = step_if (is_mark 40 w) (is_mark 40 w) _ _ (nested room (Member f) fs) bad refl (nested_cut room (Member f) fs) refl
+step_cut room fs (Key es) w = step_if (is_key w) (is_key w) _ _ (going fs (Colon es w)) (no_key fs es w) refl refl (no_key_cut fs es w)
+step_cut room fs (Colon es k) w = step_if (is_mark 58 w) (is_mark 58 w) _ _ (nested room (Keyed es k) fs) bad refl (nested_cut room (Keyed es k) fs) refl
+step_cut room fs (Each m) w = step_if (is_identifier w) (is_identifier w) _ _ (going fs (Naming m w)) bad refl refl refl
+step_cut room fs (Naming m x) w = step_if (bytes_eq w in_word) (bytes_eq w in_word) _ _ (nested room (Source m x) fs) bad refl (nested_cut room (Source m x) fs) refl
 step_cut room fs (Held e) w = gone_cut room fs e (joint_of w)
 
 -- ---- all signs
@@ -253,6 +444,10 @@ whole_cut (f ∷ fs) e = refl
 finished_cut : (fs : List Frame) (m : Mode) → finished kept (cut_frames fs) (cut_mode m) ≡ cut_read (finished (λ e. e) fs m)
 finished_cut fs Wanted = refl
 finished_cut fs (Calling f) = refl
+finished_cut fs (Key es) = refl
+finished_cut fs (Colon es k) = refl
+finished_cut fs (Each m) = refl
+finished_cut fs (Naming m x) = refl
 finished_cut fs (Held e) = ap (λ (r : Operands). whole_by r.frames r.tree) (reduced_cut 0 fs e) ∙ whole_cut (reduced (λ e. e) 0 fs e).frames (reduced (λ e. e) 0 fs e).tree
 
 follow_cut : (s : Step) (f g : List Frame → Mode → Read) → ((gs : List Frame) (n : Mode) → f (cut_frames gs) (cut_mode n) ≡ cut_read (g gs n)) → follow (cut_step s) f ≡ cut_read (follow s g)
@@ -269,3 +464,7 @@ run_cut room fs m (w ∷ ws) =
 -- what is read, where no tree higher than 128 is kept
 pub keeps : (room : ℕ) (ws : List (List ℕ)) → run kept room [] Wanted ws ≡ cut_read (run (λ e. e) room [] Wanted ws)
 keeps room ws = run_cut room [] Wanted ws
+
+-- the same, from the first sign on
+abbrev pub kept_read : List (List ℕ) → Read
+kept_read ws = run kept 128 [] Wanted ws

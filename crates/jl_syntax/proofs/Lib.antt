@@ -1,11 +1,8 @@
-pub mod SignLemmas
-pub mod NumberLemmas
-pub mod NameLemmas
+pub mod ListLemmas
+pub mod HeightLemmas
+pub mod EmptyLemmas
+pub mod OtherFrames
 pub mod Completeness
 pub mod Soundness
 pub mod Keeping
-pub mod ReaderLemmas
-pub mod LineLemmas
-pub mod BodyLemmas
-pub mod TextLemmas
 pub mod Deepness

@@ -1,26 +1,27 @@
 -- What is read from signs is an expression of the grammar, and they write it.
-use Rattle.std.proofs.Common.{◌≡◌, ℕ, zero, suc, ◌+◌, ◌<◌, ◌≤◌, Bool, true, false, List, [], ◌∷◌, ◌++◌, Option, Some, None, refl, sym, ap, ap₂, ◌∙◌, subst, arith, append_assoc, true≢false}
+use Rattle.std.proofs.Common.{◌≡◌, ℕ, suc, ◌≤◌, Bool, true, false, List, [], ◌∷◌, ◌++◌, Option, Some, None, refl, sym, ap, ap₂, ◌∙◌, subst, arith, append_assoc, true≢false}
 use Rattle.std.specs.Prelude.{nat_le, nat_lt, if◌then◌else◌}
 use Rattle.std.proofs.lemmas.List.{append-nil}
 use Rattle.std.proofs.lemmas.Slice.Eq.{bytes_eq-Decides}
 use Rattle.std.specs.Str.{bytes_eq}
-use Rattle.jl_syntax.specs.declared.operators.Operator.{Operator}
-use Rattle.jl_syntax.specs.declared.operators.Operator.TheVariants.{Or, And, Equal, Unequal, Less, AtMost, Greater, AtLeast, Plus, Minus, Times, Quotient, Remainder}
-use Rattle.jl_syntax.specs.declared.operators.Prefix.{Prefix}
-use Rattle.jl_syntax.specs.declared.operators.Prefix.TheVariants.{Not, Negative}
-use Rattle.jl_syntax.specs.declared.operators.Function.{Function}
-use Rattle.jl_syntax.specs.declared.operators.Function.TheVariants.{Len, Sum, Min, Max, Range, Array}
+use Rattle.jl_signs.specs.declared.operators.Operator.{Operator}
+use Rattle.jl_signs.specs.declared.operators.Operator.TheVariants.{Or, And, Equal, Unequal, Less, AtMost, Greater, AtLeast, Plus, Minus, Times, Quotient, Remainder}
+use Rattle.jl_signs.specs.declared.operators.Prefix.{Prefix}
+use Rattle.jl_signs.specs.declared.operators.Prefix.TheVariants.{Not, Negative}
+use Rattle.jl_signs.specs.declared.operators.Function.{Function}
+use Rattle.jl_signs.specs.declared.operators.Function.TheVariants.{Len, Sum, Min, Max, Range, Array}
 use Rattle.jl_syntax.specs.declared.joint.Joint.{Joint}
-use Rattle.jl_syntax.specs.declared.joint.Joint.TheVariants.{Infix, Opening, If, Else, Closing, Ending, Comma, Strange}
+use Rattle.jl_syntax.specs.declared.joint.Joint.TheVariants.{Infix, Opening, If, Else, For, Closing, Ending, Braced, Comma, Strange}
 use Rattle.jl_syntax.specs.declared.machine.Frame.{Frame}
-use Rattle.jl_syntax.specs.declared.machine.Frame.TheVariants.{Bracket, Behind, Operand, Condition, Otherwise, Element, Member, Bound}
+use Rattle.jl_syntax.specs.declared.machine.Frame.TheVariants.{Bracket, Behind, Operand, Condition, Otherwise, Element, Member, Bound, Listed, Keyed, Source, Filter}
 use Rattle.jl_syntax.specs.declared.machine.Mode.{Mode}
-use Rattle.jl_syntax.specs.declared.machine.Mode.TheVariants.{Wanted, Held, Calling}
-use Rattle.jl_syntax.specs.Words.{is_leaf}
-use Rattle.jl_syntax.specs.Marks.{is_mark, operator_word, operator_among, operator_of, prefix_word, prefix_of, function_word, function_among, function_of, if_word, else_word, own_level, left_level, prefix_level}
-use Rattle.jl_syntax.specs.Trees.{Expression, tall, leaf, bracketed, before, between, choice, index, call, span}
-use Rattle.jl_syntax.specs.Grammar.{level, IsFormed, words_of, round_open, round_close, square_open, square_close, comma}
-use Rattle.jl_syntax.specs.Machine.{mark_joint, joint_by, joint_of, wanted_by, wanted, depth, binds, operated, Operands, reduced, Step, going, bad, deep, begun, nested, prefixed, infixed, asked, elsed_by, closed_by, ended_by, member_behind, parted_by, called_or, gone_on, step, Read, read, broken, nested_deep, whole_by, finished, follow, run}
+use Rattle.jl_syntax.specs.declared.machine.Mode.TheVariants.{Wanted, Held, Calling, Key, Colon, Each, Naming}
+use Rattle.jl_signs.specs.Words.{is_leaf, is_identifier, is_key}
+use Rattle.jl_signs.specs.Marks.{is_mark, operator_word, operator_among, operator_of, prefix_word, prefix_of, function_word, function_among, function_of, if_word, else_word, for_word, in_word, own_level, left_level, prefix_level}
+use Rattle.jl_syntax.specs.Trees.{Expression, leaf, table, members_of, no_entries, entries_of}
+use Rattle.jl_syntax.specs.Grammar.{level, IsFormed, AreFormed, HaveFormed, words_of, round_open, round_close, square_open, square_close, curly_open, curly_close, comma, colon}
+use Rattle.jl_syntax.specs.Machine.{loop_joint, mark_joint, joint_by, joint_of, wanted_by, wanted, depth, binds, operated, Operands, reduced, Step, going, bad, deep, begun, opened_or, emptied, unkeyed, nested, prefixed, infixed, conditioned, top_is_source, picked_by, asked_by, looped_by, elsed_by, closed_by, ended_by, braced_by, member_behind, parted_by, called_or, no_key, keyed, valued, varied, sourced, gone_on, step, Read, read, whole_by, finished, follow, run}
+use Rattle.jl_syntax.proofs.ListLemmas.{listed_words, keyed_words, last_words, comma_words, last_entries, comma_entries, formed_more, entries_more}
 
 -- ---- which signs are which
 
@@ -38,8 +39,10 @@ IsJoint w (Infix o) = w ≡ operator_word o
 IsJoint w Opening = w ≡ square_open
 IsJoint w If = w ≡ if_word
 IsJoint w Else = w ≡ else_word
+IsJoint w For = w ≡ for_word
 IsJoint w Closing = w ≡ round_close
 IsJoint w Ending = w ≡ square_close
+IsJoint w Braced = w ≡ curly_close
 IsJoint w Comma = w ≡ comma
 IsJoint w Strange = Unit {0}
 
@@ -50,14 +53,19 @@ joint_if false w j k h r = r
 is_word : (w v : List ℕ) → bytes_eq w v ≡ true → w ≡ v
 is_word w v h = (bytes_eq-Decides w v).0 h
 
+loop_is : (w : List ℕ) → IsJoint w (loop_joint w)
+loop_is w =
+    joint_if (bytes_eq w for_word) w For _ (is_word w for_word)
+    (joint_if (is_mark 125 w) w Braced _ (is_word w curly_close)
+    (joint_if (is_mark 44 w) w Comma Strange (is_word w comma) tt))
+
 mark_is : (w : List ℕ) → IsJoint w (mark_joint w)
 mark_is w =
     joint_if (is_mark 91 w) w Opening _ (is_word w square_open)
     (joint_if (is_mark 41 w) w Closing _ (is_word w round_close)
     (joint_if (is_mark 93 w) w Ending _ (is_word w square_close)
     (joint_if (bytes_eq w if_word) w If _ (is_word w if_word)
-    (joint_if (bytes_eq w else_word) w Else _ (is_word w else_word)
-    (joint_if (is_mark 44 w) w Comma Strange (is_word w comma) tt)))))
+    (joint_if (bytes_eq w else_word) w Else _ (is_word w else_word) (loop_is w)))))
 
 joint_case : (o : Option Operator) (w : List ℕ) → operator_of w ≡ o → IsJoint w (joint_by o w)
 joint_case None w e = mark_is w
@@ -133,6 +141,10 @@ wanted_low (Otherwise a c ∷ fs) = omega arith
 wanted_low (Element a ∷ fs) = omega arith
 wanted_low (Member f ∷ fs) = omega arith
 wanted_low (Bound a ∷ fs) = omega arith
+wanted_low (Listed es ∷ fs) = omega arith
+wanted_low (Keyed es k ∷ fs) = omega arith
+wanted_low (Source m x ∷ fs) = omega arith
+wanted_low (Filter m x a ∷ fs) = omega arith
 
 le_of : (a b : ℕ) → nat_le a b ≡ true → a ≤ b
 le_of a b h = grind arith
@@ -149,6 +161,10 @@ IsFrame (Otherwise a c) n = (n ≤ 0) × (1 ≤ level a) × IsFormed a × (1 ≤
 IsFrame (Element a) n = (8 ≤ level a) × IsFormed a
 IsFrame (Member f) n = Unit {0}
 IsFrame (Bound a) n = IsFormed a
+IsFrame (Listed es) n = AreFormed (members_of es)
+IsFrame (Keyed es k) n = HaveFormed (entries_of es) × (is_key k ≡ true)
+IsFrame (Source m x) n = IsFormed m × (is_identifier x ≡ true)
+IsFrame (Filter m x a) n = IsFormed m × (is_identifier x ≡ true) × (1 ≤ level a) × IsFormed a
 
 abbrev IsSound : List Frame → Type 0
 IsSound [] = Unit {0}
@@ -164,6 +180,10 @@ frame_words (Otherwise a c) = words_of a ++ if_word ∷ (words_of c ++ else_word
 frame_words (Element a) = words_of a ++ square_open ∷ []
 frame_words (Member f) = function_word f ∷ round_open ∷ []
 frame_words (Bound a) = function_word Range ∷ round_open ∷ (words_of a ++ comma ∷ [])
+frame_words (Listed es) = square_open ∷ listed_words es
+frame_words (Keyed es k) = curly_open ∷ (keyed_words es ++ k ∷ colon ∷ [])
+frame_words (Source m x) = square_open ∷ (words_of m ++ for_word ∷ x ∷ in_word ∷ [])
+frame_words (Filter m x a) = square_open ∷ (words_of m ++ for_word ∷ x ∷ in_word ∷ (words_of a ++ if_word ∷ []))
 
 abbrev spelled : List Frame → List (List ℕ)
 spelled [] = []
@@ -173,12 +193,20 @@ abbrev IsMode : Mode → Type 0
 IsMode Wanted = Unit {0}
 IsMode (Held e) = IsFormed e × (8 ≤ level e)
 IsMode (Calling f) = Unit {0}
+IsMode (Key es) = HaveFormed (entries_of es)
+IsMode (Colon es k) = HaveFormed (entries_of es) × (is_key k ≡ true)
+IsMode (Each m) = IsFormed m
+IsMode (Naming m x) = IsFormed m × (is_identifier x ≡ true)
 
 -- the signs that were read
 abbrev all_words : List Frame → Mode → List (List ℕ)
 all_words fs Wanted = spelled fs
 all_words fs (Held e) = spelled fs ++ words_of e
 all_words fs (Calling f) = spelled fs ++ function_word f ∷ []
+all_words fs (Key es) = spelled fs ++ curly_open ∷ keyed_words es
+all_words fs (Colon es k) = spelled fs ++ curly_open ∷ (keyed_words es ++ k ∷ [])
+all_words fs (Each m) = spelled fs ++ square_open ∷ (words_of m ++ for_word ∷ [])
+all_words fs (Naming m x) = spelled fs ++ square_open ∷ (words_of m ++ for_word ∷ x ∷ [])
 
 abbrev IsGood : List (List ℕ) → Step → Type 0
 IsGood ws (going gs n) = IsSound gs × IsMode n × (all_words gs n ≡ ws)
@@ -223,6 +251,10 @@ made l (Otherwise a c) fs e b s h k = record { formed = (s.1, s.2, s.3, s.4, h);
 made l (Element a) fs e b s h k = absurd (true≢false (sym b))
 made l (Member f) fs e b s h k = absurd (true≢false (sym b))
 made l (Bound a) fs e b s h k = absurd (true≢false (sym b))
+made l (Listed es) fs e b s h k = absurd (true≢false (sym b))
+made l (Keyed es y) fs e b s h k = absurd (true≢false (sym b))
+made l (Source m x) fs e b s h k = absurd (true≢false (sym b))
+made l (Filter m x a) fs e b s h k = absurd (true≢false (sym b))
 
 reduce_by : (b : Bool) (l : ℕ) (f : Frame) (fs : List Frame) (e : Expression) → binds l f ≡ b → IsSound (f ∷ fs) → IsFormed e → wanted_by f ≤ level e → l ≤ level e
     → ((t : Expression) → IsFormed t → wanted fs ≤ level t → l ≤ level t → Done l (spelled fs ++ words_of t) (reduced (λ e. e) l fs t))
@@ -249,11 +281,35 @@ called_good : (w : List ℕ) (fs : List Frame) (o : Option Function) (p : Option
 called_good w fs None p e h s = prefixed_good w fs p h s
 called_good w fs (Some f) p e h s = (s, tt, ap (λ v. spelled fs ++ v ∷ []) (sym (function_found (Len ∷ Sum ∷ Min ∷ Max ∷ Range ∷ Array ∷ []) w f e)))
 
+emptied_good : (w : List ℕ) (fs : List Frame) → IsSound fs → w ≡ square_close → IsGood (spelled fs ++ w ∷ []) (emptied fs)
+emptied_good w [] s e = tt
+emptied_good w (Bracket ∷ fs) s e = tt
+emptied_good w (Behind p ∷ fs) s e = tt
+emptied_good w (Operand o a ∷ fs) s e = tt
+emptied_good w (Condition a ∷ fs) s e = tt
+emptied_good w (Otherwise a c ∷ fs) s e = tt
+emptied_good w (Element a ∷ fs) s e = tt
+emptied_good w (Member f ∷ fs) s e = tt
+emptied_good w (Bound a ∷ fs) s e = tt
+emptied_good w (Listed [] ∷ fs) s e = (s.1, (tt, omega arith), ap (λ v. spelled fs ++ square_open ∷ v ∷ []) (sym e) ∙ sym (append_assoc (spelled fs) (square_open ∷ []) (w ∷ [])))
+emptied_good w (Listed (a ∷ es) ∷ fs) s e = tt
+emptied_good w (Keyed es k ∷ fs) s e = tt
+emptied_good w (Source m x ∷ fs) s e = tt
+emptied_good w (Filter m x a ∷ fs) s e = tt
+
+unkeyed_good : (room : ℕ) (w : List ℕ) (fs : List Frame) → IsSound fs → w ≡ curly_open → IsGood (spelled fs ++ w ∷ []) (unkeyed room fs)
+unkeyed_good room w fs s e = good_if _ (nat_lt (depth fs) room) (going fs (Key [])) deep (λ h. (s, tt, ap (λ v. spelled fs ++ v ∷ []) (sym e))) tt
+
+opened_good : (room : ℕ) (fs : List Frame) (w : List ℕ) → IsSound fs → IsGood (spelled fs ++ w ∷ []) (opened_or room fs w)
+opened_good room fs w s =
+    good_if _ (is_mark 40 w) (nested room Bracket fs) _ (λ h. nested_good _ room Bracket fs (tt, s) (ap (λ v. spelled fs ++ v ∷ []) (sym (is_word w round_open h))))
+    (good_if _ (is_mark 91 w) (nested room (Listed []) fs) _ (λ h. nested_good _ room (Listed []) fs (tt, s) (ap (λ v. spelled fs ++ v ∷ []) (sym (is_word w square_open h))))
+    (good_if _ (is_mark 93 w) (emptied fs) _ (λ h. emptied_good w fs s (is_word w square_close h))
+    (good_if _ (is_mark 123 w) (unkeyed room fs) _ (λ h. unkeyed_good room w fs s (is_word w curly_open h))
+    (called_good w fs (function_of w) (prefix_of w) refl (prefix_is w) s))))
+
 begun_good : (room : ℕ) (fs : List Frame) (w : List ℕ) → IsSound fs → IsGood (spelled fs ++ w ∷ []) (begun room fs w)
-begun_good room fs w s =
-    good_if _ (is_leaf w) (going fs (Held (leaf w))) _ (λ h. (s, (h, omega arith), refl))
-    (good_if _ (is_mark 40 w) (nested room Bracket fs) _ (λ h. nested_good _ room Bracket fs (tt, s) (ap (λ v. spelled fs ++ v ∷ []) (sym (is_word w round_open h))))
-    (called_good w fs (function_of w) (prefix_of w) refl (prefix_is w) s))
+begun_good room fs w s = good_if _ (is_leaf w) (going fs (Held (leaf w))) _ (λ h. (s, (h, omega arith), refl)) (opened_good room fs w s)
 
 -- the signs so far, with one more behind the operand
 one_more : (s a ws : List (List ℕ)) (w v : List ℕ) → s ++ a ≡ ws → w ≡ v → s ++ (a ++ v ∷ []) ≡ ws ++ w ∷ []
@@ -264,10 +320,61 @@ infixed_good o ws w r d h =
     good_if _ (nat_le (wanted r.frames) (own_level o)) (going (Operand o r.tree ∷ r.frames) Wanted) bad
     (λ k. (((le_of (wanted r.frames) (own_level o) k, d.high, d.formed), d.sound), tt, one_more (spelled r.frames) (words_of r.tree) ws w (operator_word o) d.words h)) tt
 
-asked_good : (ws : List (List ℕ)) (w : List ℕ) (r : Operands) → Done 1 ws r → w ≡ if_word → IsGood (ws ++ w ∷ []) (asked r)
-asked_good ws w r d h =
-    good_if _ (nat_le (wanted r.frames) 0) (going (Condition r.tree ∷ r.frames) Wanted) bad
-    (λ k. (((le_of (wanted r.frames) 0 k, d.high, d.formed), d.sound), tt, one_more (spelled r.frames) (words_of r.tree) ws w if_word d.words h)) tt
+-- the same, where some signs stand between
+one_behind : (s p t ws : List (List ℕ)) (w v : List ℕ) → (s ++ p) ++ t ≡ ws → w ≡ v → s ++ (p ++ (t ++ v ∷ [])) ≡ ws ++ w ∷ []
+one_behind s p t ws w v e h = sym (append_assoc s p (t ++ v ∷ [])) ∙ one_more (s ++ p) t ws w v e h
+
+-- a sign behind the list that a list goes over
+source_words : (s m t ws : List (List ℕ)) (x w v : List ℕ) → (s ++ square_open ∷ (m ++ for_word ∷ x ∷ in_word ∷ [])) ++ t ≡ ws → w ≡ v → s ++ square_open ∷ (m ++ for_word ∷ x ∷ in_word ∷ (t ++ v ∷ [])) ≡ ws ++ w ∷ []
+source_words s m t ws x w v e h =
+    ap (λ y. s ++ square_open ∷ y) (sym (append_assoc m (for_word ∷ x ∷ in_word ∷ []) (t ++ v ∷ [])))
+    ∙ one_behind s (square_open ∷ (m ++ for_word ∷ x ∷ in_word ∷ [])) t ws w v e h
+
+-- a sign behind the condition of its members
+filter_words : (s m a t ws : List (List ℕ)) (x w v : List ℕ) → (s ++ square_open ∷ (m ++ for_word ∷ x ∷ in_word ∷ (a ++ if_word ∷ []))) ++ t ≡ ws → w ≡ v → s ++ square_open ∷ (m ++ for_word ∷ x ∷ in_word ∷ (a ++ if_word ∷ (t ++ v ∷ []))) ≡ ws ++ w ∷ []
+filter_words s m a t ws x w v e h =
+    ap (λ y. s ++ square_open ∷ (m ++ for_word ∷ x ∷ in_word ∷ y)) (sym (append_assoc a (if_word ∷ []) (t ++ v ∷ [])))
+    ∙ ap (λ y. s ++ square_open ∷ y) (sym (append_assoc m (for_word ∷ x ∷ in_word ∷ (a ++ if_word ∷ [])) (t ++ v ∷ [])))
+    ∙ one_behind s (square_open ∷ (m ++ for_word ∷ x ∷ in_word ∷ (a ++ if_word ∷ []))) t ws w v e h
+
+conditioned_good : (ws : List (List ℕ)) (w : List ℕ) (fs : List Frame) (t : Expression) → IsSound fs → IsFormed t → 1 ≤ level t → spelled fs ++ words_of t ≡ ws → w ≡ if_word → IsGood (ws ++ w ∷ []) (conditioned fs t)
+conditioned_good ws w fs t s h k e v =
+    good_if _ (nat_le (wanted fs) 0) (going (Condition t ∷ fs) Wanted) bad
+    (λ low. (((le_of (wanted fs) 0 low, k, h), s), tt, one_more (spelled fs) (words_of t) ws w if_word e v)) tt
+
+picked_good : (ws : List (List ℕ)) (w : List ℕ) (fs : List Frame) (t : Expression) → IsSound fs → IsFormed t → 1 ≤ level t → spelled fs ++ words_of t ≡ ws → w ≡ if_word → IsGood (ws ++ w ∷ []) (picked_by fs t)
+picked_good ws w [] t s h k e v = tt
+picked_good ws w (Bracket ∷ fs) t s h k e v = tt
+picked_good ws w (Behind p ∷ fs) t s h k e v = tt
+picked_good ws w (Operand o a ∷ fs) t s h k e v = tt
+picked_good ws w (Condition a ∷ fs) t s h k e v = tt
+picked_good ws w (Otherwise a c ∷ fs) t s h k e v = tt
+picked_good ws w (Element a ∷ fs) t s h k e v = tt
+picked_good ws w (Member f ∷ fs) t s h k e v = tt
+picked_good ws w (Bound a ∷ fs) t s h k e v = tt
+picked_good ws w (Listed es ∷ fs) t s h k e v = tt
+picked_good ws w (Keyed es y ∷ fs) t s h k e v = tt
+picked_good ws w (Source m x ∷ fs) t s h k e v = (((s.0.0, s.0.1, k, h), s.1), tt, source_words (spelled fs) (words_of m) (words_of t) ws x w if_word e v)
+picked_good ws w (Filter m x a ∷ fs) t s h k e v = tt
+
+asked_good : (ws : List (List ℕ)) (w : List ℕ) (fs : List Frame) (t : Expression) → IsSound fs → IsFormed t → 1 ≤ level t → spelled fs ++ words_of t ≡ ws → w ≡ if_word → IsGood (ws ++ w ∷ []) (asked_by fs t)
+asked_good ws w fs t s h k e v = good_if _ (top_is_source fs) (picked_by fs t) (conditioned fs t) (λ on. picked_good ws w fs t s h k e v) (conditioned_good ws w fs t s h k e v)
+
+looped_good : (ws : List (List ℕ)) (w : List ℕ) (fs : List Frame) (t : Expression) → IsSound fs → IsFormed t → spelled fs ++ words_of t ≡ ws → w ≡ for_word → IsGood (ws ++ w ∷ []) (looped_by fs t)
+looped_good ws w [] t s h e v = tt
+looped_good ws w (Bracket ∷ fs) t s h e v = tt
+looped_good ws w (Behind p ∷ fs) t s h e v = tt
+looped_good ws w (Operand o a ∷ fs) t s h e v = tt
+looped_good ws w (Condition a ∷ fs) t s h e v = tt
+looped_good ws w (Otherwise a c ∷ fs) t s h e v = tt
+looped_good ws w (Element a ∷ fs) t s h e v = tt
+looped_good ws w (Member f ∷ fs) t s h e v = tt
+looped_good ws w (Bound a ∷ fs) t s h e v = tt
+looped_good ws w (Listed [] ∷ fs) t s h e v = (s.1, h, one_behind (spelled fs) (square_open ∷ []) (words_of t) ws w for_word e v)
+looped_good ws w (Listed (a ∷ es) ∷ fs) t s h e v = tt
+looped_good ws w (Keyed es k ∷ fs) t s h e v = tt
+looped_good ws w (Source m x ∷ fs) t s h e v = tt
+looped_good ws w (Filter m x a ∷ fs) t s h e v = tt
 
 else_words : (s a t ws : List (List ℕ)) (w : List ℕ) → (s ++ (a ++ if_word ∷ [])) ++ t ≡ ws → w ≡ else_word → s ++ (a ++ if_word ∷ (t ++ else_word ∷ [])) ≡ ws ++ w ∷ []
 else_words s a t ws w e h = regroup s a (t ++ else_word ∷ []) if_word ∙ one_more (s ++ (a ++ if_word ∷ [])) t ws w else_word e h
@@ -282,6 +389,10 @@ elsed_good ws w (Otherwise a c ∷ fs) t s h k e v = tt
 elsed_good ws w (Element a ∷ fs) t s h k e v = tt
 elsed_good ws w (Member f ∷ fs) t s h k e v = tt
 elsed_good ws w (Bound a ∷ fs) t s h k e v = tt
+elsed_good ws w (Listed es ∷ fs) t s h k e v = tt
+elsed_good ws w (Keyed es y ∷ fs) t s h k e v = tt
+elsed_good ws w (Source m x ∷ fs) t s h k e v = tt
+elsed_good ws w (Filter m x a ∷ fs) t s h k e v = tt
 
 span_words : (s a c : List (List ℕ)) → s ++ function_word Range ∷ round_open ∷ (a ++ comma ∷ c) ≡ (s ++ function_word Range ∷ round_open ∷ (a ++ comma ∷ [])) ++ c
 span_words s a c = ap (λ x. s ++ function_word Range ∷ round_open ∷ x) (sym (append_assoc a (comma ∷ []) c)) ∙ sym (append_assoc s (function_word Range ∷ round_open ∷ (a ++ comma ∷ [])) c)
@@ -297,6 +408,12 @@ member_good ws w Max fs t s h e v = tt
 member_good ws w Range fs t s h e v = ((h, s), tt, bound_words (spelled fs) (words_of t) ws w e v)
 member_good ws w Array fs t s h e v = tt
 
+-- a sign behind a member of a table
+key_words : (s : List (List ℕ)) (es : List (List ℕ × Expression)) (k : List ℕ) (t : Expression) (ws : List (List ℕ)) (w v : List ℕ) (all : List (List ℕ)) → all ≡ keyed_words es ++ k ∷ colon ∷ (words_of t ++ v ∷ []) → (s ++ curly_open ∷ (keyed_words es ++ k ∷ colon ∷ [])) ++ words_of t ≡ ws → w ≡ v → s ++ curly_open ∷ all ≡ ws ++ w ∷ []
+key_words s es k t ws w v all same e h =
+    ap (λ y. s ++ curly_open ∷ y) (same ∙ sym (append_assoc (keyed_words es) (k ∷ colon ∷ []) (words_of t ++ v ∷ [])))
+    ∙ one_behind s (curly_open ∷ (keyed_words es ++ k ∷ colon ∷ [])) (words_of t) ws w v e h
+
 parted_good : (ws : List (List ℕ)) (w : List ℕ) (fs : List Frame) (t : Expression) → IsSound fs → IsFormed t → spelled fs ++ words_of t ≡ ws → w ≡ comma → IsGood (ws ++ w ∷ []) (parted_by fs t)
 parted_good ws w [] t s h e v = tt
 parted_good ws w (Bracket ∷ fs) t s h e v = tt
@@ -307,6 +424,10 @@ parted_good ws w (Otherwise a c ∷ fs) t s h e v = tt
 parted_good ws w (Element a ∷ fs) t s h e v = tt
 parted_good ws w (Member f ∷ fs) t s h e v = member_good ws w f fs t s.1 h e v
 parted_good ws w (Bound a ∷ fs) t s h e v = tt
+parted_good ws w (Listed es ∷ fs) t s h e v = ((formed_more es t s.0 h, s.1), tt, ap (λ y. spelled fs ++ square_open ∷ y) (comma_words es t) ∙ one_behind (spelled fs) (square_open ∷ listed_words es) (words_of t) ws w comma e v)
+parted_good ws w (Keyed es k ∷ fs) t s h e v = (s.1, entries_more es k t s.0.0 s.0.1 h, key_words (spelled fs) es k t ws w comma _ (comma_entries es k t) e v)
+parted_good ws w (Source m x ∷ fs) t s h e v = tt
+parted_good ws w (Filter m x a ∷ fs) t s h e v = tt
 
 closed_good : (ws : List (List ℕ)) (w : List ℕ) (fs : List Frame) (t : Expression) → IsSound fs → IsFormed t → spelled fs ++ words_of t ≡ ws → w ≡ round_close → IsGood (ws ++ w ∷ []) (closed_by (λ e. e) fs t)
 closed_good ws w [] t s h e v = tt
@@ -318,17 +439,45 @@ closed_good ws w (Otherwise a c ∷ fs) t s h e v = tt
 closed_good ws w (Element a ∷ fs) t s h e v = tt
 closed_good ws w (Member f ∷ fs) t s h e v = (s.1, (h, omega arith), sym (append_assoc (spelled fs) (function_word f ∷ round_open ∷ []) (words_of t ++ round_close ∷ [])) ∙ one_more (spelled fs ++ function_word f ∷ round_open ∷ []) (words_of t) ws w round_close e v)
 closed_good ws w (Bound a ∷ fs) t s h e v = (s.1, ((s.0, h), omega arith), span_words (spelled fs) (words_of a) (words_of t ++ round_close ∷ []) ∙ one_more (spelled fs ++ function_word Range ∷ round_open ∷ (words_of a ++ comma ∷ [])) (words_of t) ws w round_close e v)
+closed_good ws w (Listed es ∷ fs) t s h e v = tt
+closed_good ws w (Keyed es k ∷ fs) t s h e v = tt
+closed_good ws w (Source m x ∷ fs) t s h e v = tt
+closed_good ws w (Filter m x a ∷ fs) t s h e v = tt
 
-ended_good : (ws : List (List ℕ)) (w : List ℕ) (fs : List Frame) (t : Expression) → IsSound fs → IsFormed t → spelled fs ++ words_of t ≡ ws → w ≡ square_close → IsGood (ws ++ w ∷ []) (ended_by (λ e. e) fs t)
-ended_good ws w [] t s h e v = tt
-ended_good ws w (Bracket ∷ fs) t s h e v = tt
-ended_good ws w (Behind p ∷ fs) t s h e v = tt
-ended_good ws w (Operand o a ∷ fs) t s h e v = tt
-ended_good ws w (Condition a ∷ fs) t s h e v = tt
-ended_good ws w (Otherwise a c ∷ fs) t s h e v = tt
-ended_good ws w (Member f ∷ fs) t s h e v = tt
-ended_good ws w (Bound a ∷ fs) t s h e v = tt
-ended_good ws w (Element a ∷ fs) t s h e v = (s.1, ((s.0.0, s.0.1, h), omega arith), regroup (spelled fs) (words_of a) (words_of t ++ square_close ∷ []) square_open ∙ one_more (spelled fs ++ (words_of a ++ square_open ∷ [])) (words_of t) ws w square_close e v)
+ended_good : (ws : List (List ℕ)) (w : List ℕ) (fs : List Frame) (t : Expression) → IsSound fs → IsFormed t → wanted fs ≤ level t → spelled fs ++ words_of t ≡ ws → w ≡ square_close → IsGood (ws ++ w ∷ []) (ended_by (λ e. e) fs t)
+ended_good ws w [] t s h k e v = tt
+ended_good ws w (Bracket ∷ fs) t s h k e v = tt
+ended_good ws w (Behind p ∷ fs) t s h k e v = tt
+ended_good ws w (Operand o a ∷ fs) t s h k e v = tt
+ended_good ws w (Condition a ∷ fs) t s h k e v = tt
+ended_good ws w (Otherwise a c ∷ fs) t s h k e v = tt
+ended_good ws w (Member f ∷ fs) t s h k e v = tt
+ended_good ws w (Bound a ∷ fs) t s h k e v = tt
+ended_good ws w (Element a ∷ fs) t s h k e v = (s.1, ((s.0.0, s.0.1, h), omega arith), regroup (spelled fs) (words_of a) (words_of t ++ square_close ∷ []) square_open ∙ one_more (spelled fs ++ (words_of a ++ square_open ∷ [])) (words_of t) ws w square_close e v)
+ended_good ws w (Listed es ∷ fs) t s h k e v = (
+  s.1,
+  (formed_more es t s.0 h, omega arith),
+  ap (λ y. spelled fs ++ square_open ∷ y) (last_words es t (square_close ∷ []))
+      ∙ one_behind (spelled fs) (square_open ∷ listed_words es) (words_of t) ws w square_close e v,
+)
+ended_good ws w (Keyed es y ∷ fs) t s h k e v = tt
+ended_good ws w (Source m x ∷ fs) t s h k e v = (s.1, ((s.0.0, s.0.1, k, h), omega arith), source_words (spelled fs) (words_of m) (words_of t) ws x w square_close e v)
+ended_good ws w (Filter m x a ∷ fs) t s h k e v = (s.1, ((s.0.0, s.0.1, s.0.2, s.0.3, k, h), omega arith), filter_words (spelled fs) (words_of m) (words_of a) (words_of t) ws x w square_close e v)
+
+braced_good : (ws : List (List ℕ)) (w : List ℕ) (fs : List Frame) (t : Expression) → IsSound fs → IsFormed t → spelled fs ++ words_of t ≡ ws → w ≡ curly_close → IsGood (ws ++ w ∷ []) (braced_by (λ e. e) fs t)
+braced_good ws w [] t s h e v = tt
+braced_good ws w (Bracket ∷ fs) t s h e v = tt
+braced_good ws w (Behind p ∷ fs) t s h e v = tt
+braced_good ws w (Operand o a ∷ fs) t s h e v = tt
+braced_good ws w (Condition a ∷ fs) t s h e v = tt
+braced_good ws w (Otherwise a c ∷ fs) t s h e v = tt
+braced_good ws w (Element a ∷ fs) t s h e v = tt
+braced_good ws w (Member f ∷ fs) t s h e v = tt
+braced_good ws w (Bound a ∷ fs) t s h e v = tt
+braced_good ws w (Listed es ∷ fs) t s h e v = tt
+braced_good ws w (Keyed es k ∷ fs) t s h e v = (s.1, (entries_more es k t s.0.0 s.0.1 h, omega arith), key_words (spelled fs) es k t ws w curly_close _ (last_entries es k t (curly_close ∷ [])) e v)
+braced_good ws w (Source m x ∷ fs) t s h e v = tt
+braced_good ws w (Filter m x a ∷ fs) t s h e v = tt
 
 gone_good : (room : ℕ) (fs : List Frame) (e : Expression) (j : Joint) (w : List ℕ) → IsJoint w j → IsSound fs → IsFormed e → 8 ≤ level e → IsGood ((spelled fs ++ words_of e) ++ w ∷ []) (gone_on (λ e. e) room fs e j)
 gone_good room fs e (Infix o) w j s h k =
@@ -337,11 +486,16 @@ gone_good room fs e (Infix o) w j s h k =
 gone_good room fs e Opening w j s h k = nested_good _ room (Element e) fs ((k, h), s) (one_more (spelled fs) (words_of e) _ w square_open refl j)
 gone_good room fs e If w j s h k =
     let low = wanted_low fs in
-    asked_good _ w (reduced (λ e. e) 1 fs e) (reduces 1 fs e s h (omega arith) (omega arith)) j
+    let d = reduces 1 fs e s h (omega arith) (omega arith) in
+    asked_good _ w (reduced (λ e. e) 1 fs e).frames (reduced (λ e. e) 1 fs e).tree d.sound d.formed d.high d.words j
 gone_good room fs e Else w j s h k =
     let low = wanted_low fs in
     let d = reduces 1 fs e s h (omega arith) (omega arith) in
     elsed_good _ w (reduced (λ e. e) 1 fs e).frames (reduced (λ e. e) 1 fs e).tree d.sound d.formed d.high d.words j
+gone_good room fs e For w j s h k =
+    let low = wanted_low fs in
+    let d = reduces 0 fs e s h (omega arith) (omega arith) in
+    looped_good _ w (reduced (λ e. e) 0 fs e).frames (reduced (λ e. e) 0 fs e).tree d.sound d.formed d.words j
 gone_good room fs e Closing w j s h k =
     let low = wanted_low fs in
     let d = reduces 0 fs e s h (omega arith) (omega arith) in
@@ -349,7 +503,11 @@ gone_good room fs e Closing w j s h k =
 gone_good room fs e Ending w j s h k =
     let low = wanted_low fs in
     let d = reduces 0 fs e s h (omega arith) (omega arith) in
-    ended_good _ w (reduced (λ e. e) 0 fs e).frames (reduced (λ e. e) 0 fs e).tree d.sound d.formed d.words j
+    ended_good _ w (reduced (λ e. e) 0 fs e).frames (reduced (λ e. e) 0 fs e).tree d.sound d.formed d.fits d.words j
+gone_good room fs e Braced w j s h k =
+    let low = wanted_low fs in
+    let d = reduces 0 fs e s h (omega arith) (omega arith) in
+    braced_good _ w (reduced (λ e. e) 0 fs e).frames (reduced (λ e. e) 0 fs e).tree d.sound d.formed d.words j
 gone_good room fs e Comma w j s h k =
     let low = wanted_low fs in
     let d = reduces 0 fs e s h (omega arith) (omega arith) in
@@ -359,9 +517,36 @@ gone_good room fs e Strange w j s h k = tt
 calling_good : (room : ℕ) (f : Function) (fs : List Frame) (w : List ℕ) → IsSound fs → IsGood ((spelled fs ++ function_word f ∷ []) ++ w ∷ []) (if is_mark 40 w then nested room (Member f) fs else bad)
 calling_good room f fs w s = good_if _ (is_mark 40 w) (nested room (Member f) fs) bad (λ h. nested_good _ room (Member f) fs (tt, s) (sym (append_assoc (spelled fs) (function_word f ∷ []) (round_open ∷ [])) ∙ ap (λ v. (spelled fs ++ function_word f ∷ []) ++ v ∷ []) (sym (is_word w round_open h)))) tt
 
+-- a sign more, where some stand before and between
+tail_words : (s m us : List (List ℕ)) (o w v : List ℕ) → w ≡ v → s ++ o ∷ (m ++ (us ++ v ∷ [])) ≡ (s ++ o ∷ (m ++ us)) ++ w ∷ []
+tail_words s m us o w v h =
+    ap (λ y. s ++ o ∷ y) (sym (append_assoc m us (v ∷ [])))
+    ∙ sym (append_assoc s (o ∷ (m ++ us)) (v ∷ []))
+    ∙ ap (λ u. (s ++ o ∷ (m ++ us)) ++ u ∷ []) (sym h)
+
+no_key_good : (fs : List Frame) (es : List (List ℕ × Expression)) (w : List ℕ) → IsSound fs → IsGood ((spelled fs ++ curly_open ∷ keyed_words es) ++ w ∷ []) (no_key fs es w)
+no_key_good fs [] w s = good_if _ (is_mark 125 w) (going fs (Held (table no_entries))) bad (λ h. (s, (tt, omega arith), tail_words (spelled fs) [] [] curly_open w curly_close (is_word w curly_close h))) tt
+no_key_good fs (p ∷ ps) w s = tt
+
+keyed_good : (fs : List Frame) (es : List (List ℕ × Expression)) (w : List ℕ) → IsSound fs → HaveFormed (entries_of es) → IsGood ((spelled fs ++ curly_open ∷ keyed_words es) ++ w ∷ []) (keyed fs es w)
+keyed_good fs es w s f = good_if _ (is_key w) (going fs (Colon es w)) _ (λ h. (s, (f, h), sym (append_assoc (spelled fs) (curly_open ∷ keyed_words es) (w ∷ [])))) (no_key_good fs es w s)
+
+valued_good : (room : ℕ) (fs : List Frame) (es : List (List ℕ × Expression)) (k w : List ℕ) → IsSound fs → HaveFormed (entries_of es) → is_key k ≡ true → IsGood ((spelled fs ++ curly_open ∷ (keyed_words es ++ k ∷ [])) ++ w ∷ []) (valued room fs es k w)
+valued_good room fs es k w s f g = good_if _ (is_mark 58 w) (nested room (Keyed es k) fs) bad (λ h. nested_good _ room (Keyed es k) fs ((f, g), s) (tail_words (spelled fs) (keyed_words es) (k ∷ []) curly_open w colon (is_word w colon h))) tt
+
+varied_good : (fs : List Frame) (m : Expression) (w : List ℕ) → IsSound fs → IsFormed m → IsGood ((spelled fs ++ square_open ∷ (words_of m ++ for_word ∷ [])) ++ w ∷ []) (varied fs m w)
+varied_good fs m w s f = good_if _ (is_identifier w) (going fs (Naming m w)) bad (λ h. (s, (f, h), tail_words (spelled fs) (words_of m) (for_word ∷ []) square_open w w refl)) tt
+
+sourced_good : (room : ℕ) (fs : List Frame) (m : Expression) (x w : List ℕ) → IsSound fs → IsFormed m → is_identifier x ≡ true → IsGood ((spelled fs ++ square_open ∷ (words_of m ++ for_word ∷ x ∷ [])) ++ w ∷ []) (sourced room fs m x w)
+sourced_good room fs m x w s f g = good_if _ (bytes_eq w in_word) (nested room (Source m x) fs) bad (λ h. nested_good _ room (Source m x) fs ((f, g), s) (tail_words (spelled fs) (words_of m) (for_word ∷ x ∷ []) square_open w in_word (is_word w in_word h))) tt
+
 step_good : (room : ℕ) (fs : List Frame) (m : Mode) (w : List ℕ) → IsSound fs → IsMode m → IsGood (all_words fs m ++ w ∷ []) (step (λ e. e) room fs m w)
 step_good room fs Wanted w s h = begun_good room fs w s
 step_good room fs (Calling f) w s h = calling_good room f fs w s
+step_good room fs (Key es) w s h = keyed_good fs es w s h
+step_good room fs (Colon es k) w s h = valued_good room fs es k w s h.0 h.1
+step_good room fs (Each m) w s h = varied_good fs m w s h
+step_good room fs (Naming m x) w s h = sourced_good room fs m x w s h.0 h.1
 step_good room fs (Held e) w s h = gone_good room fs e (joint_of w) w (joint_is w) s h.0 h.1
 
 -- ---- all signs
@@ -373,6 +558,10 @@ whole_good (f ∷ fs) t u ws h e r = absurd (cc)
 finish_good : (fs : List Frame) (m : Mode) (u : Expression) → IsSound fs → IsMode m → finished (λ e. e) fs m ≡ read u → IsFormed u × (words_of u ≡ all_words fs m)
 finish_good fs Wanted u s h r = absurd (cc)
 finish_good fs (Calling f) u s h r = absurd (cc)
+finish_good fs (Key es) u s h r = absurd (cc)
+finish_good fs (Colon es k) u s h r = absurd (cc)
+finish_good fs (Each m) u s h r = absurd (cc)
+finish_good fs (Naming m x) u s h r = absurd (cc)
 finish_good fs (Held e) u s h r =
     let low = wanted_low fs in let high = h.1 in
     let d = reduces 0 fs e s h.0 (omega arith) (omega arith) in

@@ -1,16 +1,8 @@
-pub mod Signs
-pub mod Words
-pub mod Marks
 pub mod Trees
 pub mod Codes
-pub mod Constants
 pub mod Form
+pub mod Falls
 pub mod Machine
 pub mod FrameCodes
 pub mod Steps
 pub mod Grammar
-pub mod Headings
-pub mod Lines
-pub mod Modules
-pub mod Checks
-pub mod ModuleLaws

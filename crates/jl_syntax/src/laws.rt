@@ -1,6 +1,5 @@
 ghost use Rattle.std.specs.Prelude.{◌≡◌, ◌≢◌, ◌≤◌, List, ℕ};
 ghost use Rattle.jl_syntax.specs.Trees.{Expression};
-ghost use Rattle.jl_syntax.specs.Headings.{Heading, with_body, judged};
 ghost use Rattle.jl_syntax.specs.Grammar.{Writes, brackets};
 ghost use Rattle.jl_syntax.specs.Machine.{read_signs, read, broken};
 
@@ -17,11 +16,6 @@ pub fn what_is_read_is_written()
 /// An expression that signs write, with at most 128 brackets nested, is read from them.
 pub fn what_is_written_is_read()
     ensures { (ws : List (List ℕ)) (e : Expression) → Writes ws e → brackets e ≤ 128 → read_signs ws ≡ read e }
-{}
-
-/// A line of the grammar is judged by its tree.
-pub fn a_line_is_judged_by_its_tree()
-    ensures { (h : Heading) (e : Expression) → Writes h.body e → with_body h (read_signs h.body) ≡ judged h e }
 {}
 
 /// Only signs that no expression writes are broken.

@@ -1,14 +1,16 @@
 ghost use Rattle.std.specs.Prelude.{◌≡◌, ◌∷◌, [], ◌<◌, ◌≤◌, ◌+◌, length, IfOk, IfSome, OnOk, MatchOption, MatchResult, IsTrue, true, false, nat_le};
-ghost use Rattle.jl_syntax.specs.Machine.{wanted_by as wanted_by_of, wanted as wanted_of, is_bracket as is_bracket_of, depth as depth_of, binds as binds_of, top_binds as top_binds_of, operated as operated_of, kept, reduced as reduced_of, nested, prefixed as prefixed_of, begun as begun_of, infixed as infixed_of, asked as asked_of, elsed_by, closed_by, ended_by, parted_by, called as called_of, gone_on as gone_on_of, step as step_of, finished, whole_by};
+ghost use Rattle.jl_syntax.specs.Machine.{wanted_by as wanted_by_of, wanted as wanted_of, is_bracket as is_bracket_of, depth as depth_of, binds as binds_of, top_binds as top_binds_of, operated as operated_of, kept, reduced as reduced_of, nested, prefixed as prefixed_of, begun as begun_of, infixed as infixed_of, is_source as is_source_of, top_is_source as top_is_source_of, conditioned as conditioned_of, picked_by, asked_by, opened_or, elsed_by, closed_by, ended_by, member_behind, parted_by, called as called_of, gone_on as gone_on_of, step as step_of, finished, whole_by, run};
 ghost use Rattle.jl_syntax.specs.Steps.{IsStep, IsRead};
 ghost use Rattle.jl_syntax.specs.declared.machine.Mode.TheVariants.{Wanted};
-ghost use Rattle.jl_syntax.specs.Marks.{own_level as own_level_of, left_level as left_level_of, prefix_level as prefix_level_of};
+ghost use Rattle.jl_signs.specs.Signs.{signs};
 
-use crate::joint::{Joint, function, prefix, read_joint};
-use crate::lexer::is_mark;
-use crate::operators::{Function, Operator, Prefix};
-use crate::tree::Tree;
-use crate::word::Word;
+use crate::joint::{Joint, read_joint};
+use crate::lists::{braced, emptied, keyed, looped, sourced, unkeyed, valued, varied};
+use crate::tree::{Entries, Members, Tree};
+use jl_signs::{
+    Function, Key, Name, Operator, Prefix, Word, function, is_mark, left_level, next_sign,
+    own_level, prefix, prefix_level,
+};
 use std::alloc::{AllocError, Global};
 use std::marker::Model;
 
@@ -23,14 +25,22 @@ pub(crate) enum Frame<'a> {
     Element(Tree<'a>),
     Member(Function),
     Bound(Tree<'a>),
+    Listed(Members<'a>),
+    Keyed(Entries<'a>, Key<'a>),
+    Source(Tree<'a>, Name<'a>),
+    Filter(Tree<'a>, Name<'a>, Tree<'a>),
 }
 
-/// Whether an operand is wanted or was just read.
+/// What is wanted, or that an operand was just read.
 #[derive(Drop)]
 pub(crate) enum Mode<'a> {
     Wanted,
     Held(Tree<'a>),
     Calling(Function),
+    Key(Entries<'a>),
+    Colon(Entries<'a>, Key<'a>),
+    Each(Tree<'a>),
+    Naming(Tree<'a>, Name<'a>),
 }
 
 /// The frames that wait, and how many brackets among them are open.
@@ -55,50 +65,6 @@ impl<'a> Model for Stack<'a> {
     ghost invariant = { λ s. (s.depth ≡ depth_of (reverse s.frames.items)) × (s.depth ≤ 128) };
 }
 
-pub(crate) fn own_level(operator: Operator) -> u32
-    ensures { result ≡ own_level_of operator }
-{
-    match operator {
-        Operator::Or => 1,
-        Operator::And => 2,
-        Operator::Equal
-        | Operator::Unequal
-        | Operator::Less
-        | Operator::AtMost
-        | Operator::Greater
-        | Operator::AtLeast => 4,
-        Operator::Plus | Operator::Minus => 5,
-        Operator::Times | Operator::Quotient | Operator::Remainder => 6,
-    }
-}
-
-pub(crate) fn left_level(operator: Operator) -> u32
-    ensures { result ≡ left_level_of operator }
-{
-    match operator {
-        Operator::Or => 1,
-        Operator::And => 2,
-        Operator::Equal
-        | Operator::Unequal
-        | Operator::Less
-        | Operator::AtMost
-        | Operator::Greater
-        | Operator::AtLeast
-        | Operator::Plus
-        | Operator::Minus => 5,
-        Operator::Times | Operator::Quotient | Operator::Remainder => 6,
-    }
-}
-
-pub(crate) fn prefix_level(prefix: Prefix) -> u32
-    ensures { result ≡ prefix_level_of prefix }
-{
-    match prefix {
-        Prefix::Not => 3,
-        Prefix::Negative => 7,
-    }
-}
-
 fn wanted_by(frame: &Frame) -> u32
     ensures { result ≡ wanted_by_of frame.now }
 {
@@ -111,6 +77,10 @@ fn wanted_by(frame: &Frame) -> u32
         Frame::Element(_) => 0,
         Frame::Member(_) => 0,
         Frame::Bound(_) => 0,
+        Frame::Listed(_) => 0,
+        Frame::Keyed(_, _) => 0,
+        Frame::Source(_, _) => 1,
+        Frame::Filter(_, _, _) => 1,
     }
 }
 
@@ -126,6 +96,29 @@ fn is_bracket(frame: &Frame) -> bool
         Frame::Element(_) => true,
         Frame::Member(_) => true,
         Frame::Bound(_) => true,
+        Frame::Listed(_) => true,
+        Frame::Keyed(_, _) => true,
+        Frame::Source(_, _) => true,
+        Frame::Filter(_, _, _) => true,
+    }
+}
+
+fn is_source(frame: &Frame) -> bool
+    ensures { result ≡ is_source_of frame.now }
+{
+    match frame {
+        Frame::Bracket => false,
+        Frame::Behind(_) => false,
+        Frame::Operand(_, _) => false,
+        Frame::Condition(_) => false,
+        Frame::Otherwise(_, _) => false,
+        Frame::Element(_) => false,
+        Frame::Member(_) => false,
+        Frame::Bound(_) => false,
+        Frame::Listed(_) => false,
+        Frame::Keyed(_, _) => false,
+        Frame::Source(_, _) => true,
+        Frame::Filter(_, _, _) => false,
     }
 }
 
@@ -141,6 +134,10 @@ fn binds(level: u32, frame: &Frame) -> bool
         Frame::Element(_) => false,
         Frame::Member(_) => false,
         Frame::Bound(_) => false,
+        Frame::Listed(_) => false,
+        Frame::Keyed(_, _) => false,
+        Frame::Source(_, _) => false,
+        Frame::Filter(_, _, _) => false,
     }
 }
 
@@ -156,6 +153,10 @@ fn operated<'a>(alloc: Global, frame: Frame<'a>, last: Tree<'a>) -> Result<Tree<
         Frame::Element(_) => Ok(last),
         Frame::Member(_) => Ok(last),
         Frame::Bound(_) => Ok(last),
+        Frame::Listed(_) => Ok(last),
+        Frame::Keyed(_, _) => Ok(last),
+        Frame::Source(_, _) => Ok(last),
+        Frame::Filter(_, _, _) => Ok(last),
     }
 }
 
@@ -192,6 +193,15 @@ impl<'a> Stack<'a> {
     {
         match self.frames.last() {
             Some(frame) => binds(level, frame),
+            None => false,
+        }
+    }
+
+    fn top_is_source(&self) -> bool
+        ensures { result ≡ top_is_source_of self.now }
+    {
+        match self.frames.last() {
+            Some(frame) => is_source(frame),
             None => false,
         }
     }
@@ -259,20 +269,20 @@ impl<'a> Stack<'a> {
 /// The frames that are left, and the operand.
 #[derive(Drop)]
 pub(crate) struct Operands<'a> {
-    stack: Stack<'a>,
-    tree: Tree<'a>,
+    pub(crate) stack: Stack<'a>,
+    pub(crate) tree: Tree<'a>,
 }
 
 /// What was read of an expression so far.
 #[derive(Drop)]
 pub(crate) struct Reader<'a> {
-    stack: Stack<'a>,
-    mode: Mode<'a>,
+    pub(crate) stack: Stack<'a>,
+    pub(crate) mode: Mode<'a>,
 }
 
 /// Why there is no expression.
 #[derive(Clone, Copy, Drop)]
-pub(crate) enum Stop {
+pub enum Stop {
     Bad,
     Deep,
     NoMemory,
@@ -310,7 +320,7 @@ fn reduced<'a>(
     }
 }
 
-fn opened<'a>(frame: Frame<'a>, stack: Stack<'a>) -> Result<Reader<'a>, Stop>
+pub(crate) fn opened<'a>(frame: Frame<'a>, stack: Stack<'a>) -> Result<Reader<'a>, Stop>
     requires { is_bracket_of frame ≡ true }
     ensures { IsStep result (nested 128 frame.entry stack.entry) }
 {
@@ -338,17 +348,21 @@ fn prefixed<'a>(stack: Stack<'a>, prefix: Option<Prefix>) -> Result<Reader<'a>, 
     })
 }
 
-fn begun<'a>(alloc: Global, stack: Stack<'a>, sign: &'a [u8]) -> Result<Reader<'a>, Stop>
-    ensures { IsStep result (begun_of 128 stack.entry sign.now) }
+// A bracket where an operand begins, a function's name, or what may stand before an operand.
+fn opened_with<'a>(alloc: Global, stack: Stack<'a>, sign: &'a [u8]) -> Result<Reader<'a>, Stop>
+    ensures { IsStep result (opened_or 128 stack.entry sign.now) }
 {
-    if let Some(word) = Word::read(alloc, sign)? {
-        return Ok(Reader {
-            stack,
-            mode: Mode::Held(Tree::leaf(word)),
-        });
-    }
     if is_mark(sign, b'(') {
         return opened(Frame::Bracket, stack);
+    }
+    if is_mark(sign, b'[') {
+        return opened(Frame::Listed(Members::new(alloc)), stack);
+    }
+    if is_mark(sign, b']') {
+        return emptied(stack);
+    }
+    if is_mark(sign, b'{') {
+        return unkeyed(alloc, stack);
     }
     if let Some(function) = function(sign) {
         return Ok(Reader {
@@ -357,6 +371,18 @@ fn begun<'a>(alloc: Global, stack: Stack<'a>, sign: &'a [u8]) -> Result<Reader<'
         });
     }
     prefixed(stack, prefix(sign))
+}
+
+fn begun<'a>(alloc: Global, stack: Stack<'a>, sign: &'a [u8]) -> Result<Reader<'a>, Stop>
+    ensures { IsStep result (begun_of 128 stack.entry sign.now) }
+{
+    match Word::read(alloc, sign)? {
+        Some(word) => Ok(Reader {
+            stack,
+            mode: Mode::Held(Tree::leaf(word)),
+        }),
+        None => opened_with(alloc, stack, sign),
+    }
 }
 
 fn called<'a>(function: Function, stack: Stack<'a>, sign: &[u8]) -> Result<Reader<'a>, Stop>
@@ -382,10 +408,10 @@ fn infixed<'a>(operator: Operator, operands: Operands<'a>) -> Result<Reader<'a>,
     })
 }
 
-fn asked(operands: Operands<'_>) -> Result<Reader<'_>, Stop>
-    ensures { IsStep result (asked_of (record { frames = operands.entry.stack; tree = operands.entry.tree })) }
+// An `if` where a condition of a choice may follow.
+fn conditioned<'a>(stack: Stack<'a>, tree: Tree<'a>) -> Result<Reader<'a>, Stop>
+    ensures { IsStep result (conditioned_of stack.entry tree.entry) }
 {
-    let Operands { stack, tree } = operands;
     if stack.wanted() > 0 {
         return Err(Stop::Bad);
     }
@@ -393,6 +419,40 @@ fn asked(operands: Operands<'_>) -> Result<Reader<'_>, Stop>
         stack: stack.push(Frame::Condition(tree))?,
         mode: Mode::Wanted,
     })
+}
+
+// An `if` behind the list that a list goes over, which waits on top.
+fn picked_at<'a>(frame: Frame<'a>, stack: Stack<'a>, tree: Tree<'a>) -> Result<Reader<'a>, Stop>
+    requires { is_bracket_of frame ≡ true → depth_of stack < 128 }
+    ensures { IsStep result (picked_by (frame.entry ∷ stack.entry) tree.entry) }
+{
+    match frame {
+        Frame::Source(member, variable) => Ok(Reader {
+            stack: stack.open(Frame::Filter(member, variable, tree))?,
+            mode: Mode::Wanted,
+        }),
+        _ => Err(Stop::Bad),
+    }
+}
+
+fn picked<'a>(stack: Stack<'a>, tree: Tree<'a>) -> Result<Reader<'a>, Stop>
+    ensures { IsStep result (picked_by stack.entry tree.entry) }
+{
+    match stack.pop() {
+        Some((frame, rest)) => picked_at(frame, rest, tree),
+        None => Err(Stop::Bad),
+    }
+}
+
+fn asked(operands: Operands<'_>) -> Result<Reader<'_>, Stop>
+    ensures { IsStep result (asked_by operands.entry.stack operands.entry.tree) }
+{
+    let Operands { stack, tree } = operands;
+    if stack.top_is_source() {
+        picked(stack, tree)
+    } else {
+        conditioned(stack, tree)
+    }
 }
 
 // An `else` behind what waits on top.
@@ -404,13 +464,7 @@ fn elsed_at<'a>(frame: Frame<'a>, stack: Stack<'a>, tree: Tree<'a>) -> Result<Re
             stack: stack.push(Frame::Otherwise(first, tree))?,
             mode: Mode::Wanted,
         }),
-        Frame::Bracket => Err(Stop::Bad),
-        Frame::Behind(_) => Err(Stop::Bad),
-        Frame::Operand(_, _) => Err(Stop::Bad),
-        Frame::Otherwise(_, _) => Err(Stop::Bad),
-        Frame::Element(_) => Err(Stop::Bad),
-        Frame::Member(_) => Err(Stop::Bad),
-        Frame::Bound(_) => Err(Stop::Bad),
+        _ => Err(Stop::Bad),
     }
 }
 
@@ -446,11 +500,7 @@ fn closed_at<'a>(
             stack,
             mode: Mode::Held(Tree::span(alloc, first, tree)?),
         }),
-        Frame::Behind(_) => Err(Stop::Bad),
-        Frame::Operand(_, _) => Err(Stop::Bad),
-        Frame::Condition(_) => Err(Stop::Bad),
-        Frame::Otherwise(_, _) => Err(Stop::Bad),
-        Frame::Element(_) => Err(Stop::Bad),
+        _ => Err(Stop::Bad),
     }
 }
 
@@ -478,13 +528,19 @@ fn ended_at<'a>(
             stack,
             mode: Mode::Held(Tree::index(alloc, whole, tree)?),
         }),
-        Frame::Bracket => Err(Stop::Bad),
-        Frame::Behind(_) => Err(Stop::Bad),
-        Frame::Operand(_, _) => Err(Stop::Bad),
-        Frame::Condition(_) => Err(Stop::Bad),
-        Frame::Otherwise(_, _) => Err(Stop::Bad),
-        Frame::Member(_) => Err(Stop::Bad),
-        Frame::Bound(_) => Err(Stop::Bad),
+        Frame::Listed(members) => Ok(Reader {
+            stack,
+            mode: Mode::Held(Tree::listed(members.with(tree)?)),
+        }),
+        Frame::Source(member, variable) => Ok(Reader {
+            stack,
+            mode: Mode::Held(Tree::each(alloc, member, variable, tree)?),
+        }),
+        Frame::Filter(member, variable, source) => Ok(Reader {
+            stack,
+            mode: Mode::Held(Tree::filtered(alloc, member, variable, source, tree)?),
+        }),
+        _ => Err(Stop::Bad),
     }
 }
 
@@ -498,24 +554,36 @@ fn ended<'a>(alloc: Global, operands: Operands<'a>) -> Result<Reader<'a>, Stop>
     }
 }
 
+// A `,` behind the first member of a function.
+fn bounded<'a>(function: Function, stack: Stack<'a>, tree: Tree<'a>) -> Result<Reader<'a>, Stop>
+    requires { depth_of stack < 128 }
+    ensures { IsStep result (member_behind function stack.entry tree.entry) }
+{
+    match function {
+        Function::Range => Ok(Reader {
+            stack: stack.open(Frame::Bound(tree))?,
+            mode: Mode::Wanted,
+        }),
+        _ => Err(Stop::Bad),
+    }
+}
+
 // A `,` behind what waits on top.
 fn parted_at<'a>(frame: Frame<'a>, stack: Stack<'a>, tree: Tree<'a>) -> Result<Reader<'a>, Stop>
     requires { is_bracket_of frame ≡ true → depth_of stack < 128 }
     ensures { IsStep result (parted_by (frame.entry ∷ stack.entry) tree.entry) }
 {
     match frame {
-        Frame::Member(Function::Range) => Ok(Reader {
-            stack: stack.open(Frame::Bound(tree))?,
+        Frame::Member(function) => bounded(function, stack, tree),
+        Frame::Listed(members) => Ok(Reader {
+            stack: stack.open(Frame::Listed(members.with(tree)?))?,
             mode: Mode::Wanted,
         }),
-        Frame::Member(_) => Err(Stop::Bad),
-        Frame::Bracket => Err(Stop::Bad),
-        Frame::Behind(_) => Err(Stop::Bad),
-        Frame::Operand(_, _) => Err(Stop::Bad),
-        Frame::Condition(_) => Err(Stop::Bad),
-        Frame::Otherwise(_, _) => Err(Stop::Bad),
-        Frame::Element(_) => Err(Stop::Bad),
-        Frame::Bound(_) => Err(Stop::Bad),
+        Frame::Keyed(entries, key) => Ok(Reader {
+            stack,
+            mode: Mode::Key(entries.with(key, tree)?),
+        }),
+        _ => Err(Stop::Bad),
     }
 }
 
@@ -545,8 +613,10 @@ fn gone_on<'a>(
         Joint::Opening => opened(Frame::Element(tree), stack),
         Joint::If => asked(reduced(alloc, 1, stack, tree)?),
         Joint::Else => elsed(reduced(alloc, 1, stack, tree)?),
+        Joint::For => looped(reduced(alloc, 0, stack, tree)?),
         Joint::Closing => closed(alloc, reduced(alloc, 0, stack, tree)?),
         Joint::Ending => ended(alloc, reduced(alloc, 0, stack, tree)?),
+        Joint::Braced => braced(reduced(alloc, 0, stack, tree)?),
         Joint::Comma => parted(reduced(alloc, 0, stack, tree)?),
         Joint::Strange => Err(Stop::Bad),
     }
@@ -582,6 +652,10 @@ impl<'a> Reader<'a> {
             Mode::Wanted => begun(alloc, stack, sign),
             Mode::Held(tree) => gone_on(alloc, stack, tree, read_joint(sign)),
             Mode::Calling(function) => called(function, stack, sign),
+            Mode::Key(entries) => keyed(alloc, stack, entries, sign),
+            Mode::Colon(entries, key) => valued(stack, entries, key, sign),
+            Mode::Each(member) => varied(stack, member, sign),
+            Mode::Naming(member, variable) => sourced(stack, member, variable, sign),
         }
     }
 
@@ -593,7 +667,28 @@ impl<'a> Reader<'a> {
         match mode {
             Mode::Wanted => Err(Stop::Bad),
             Mode::Calling(_) => Err(Stop::Bad),
+            Mode::Key(_) => Err(Stop::Bad),
+            Mode::Colon(_, _) => Err(Stop::Bad),
+            Mode::Each(_) => Err(Stop::Bad),
+            Mode::Naming(_, _) => Err(Stop::Bad),
             Mode::Held(tree) => whole(reduced(alloc, 0, stack, tree)?),
+        }
+    }
+}
+
+/// The tree that the signs of a text write; of one higher than 128 only its height is kept.
+pub fn read_expression<'a>(alloc: Global, bytes: &'a [u8]) -> Result<Tree<'a>, Stop>
+    ensures { IsRead result (run kept 128 [] Wanted (signs bytes.now)) }
+{
+    let mut reader = Reader::new(alloc);
+    let mut left = bytes;
+    'signs: loop {
+        match next_sign(left) {
+            Some((sign, rest)) => {
+                reader = reader.step(alloc, sign)?;
+                left = rest;
+            }
+            None => return reader.finish(alloc),
         }
     }
 }

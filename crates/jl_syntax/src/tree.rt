@@ -1,10 +1,9 @@
-ghost use Rattle.std.specs.Prelude.{◌≡◌, ◌≤◌, IfOk, max, suc};
-ghost use Rattle.jl_syntax.specs.Trees.{leaf, bracketed, before, between, choice, index, call, span, height as height_of};
+ghost use Rattle.std.specs.Prelude.{◌≡◌, ◌≤◌, IfOk, max, suc, [], ◌∷◌, ◌++◌};
+ghost use Rattle.jl_syntax.specs.Trees.{leaf, bracketed, before, between, choice, index, call, span, list, each, filtered, table, height as height_of, members_of, members_height, entries_of, entries_height};
 ghost use Rattle.jl_syntax.specs.Machine.{kept as kept_of};
 ghost use Rattle.jl_syntax.specs.Form.{expression_of};
 
-use crate::operators::{Function, Operator, Prefix};
-use crate::word::Word;
+use jl_signs::{Function, Key, Name, Operator, Prefix, Word};
 use std::alloc::{AllocError, Global};
 use std::marker::Model;
 
@@ -29,10 +28,30 @@ pub enum Node<'a> {
     Index(Box<Tree<'a>>, Box<Tree<'a>>),
     Call(Function, Box<Tree<'a>>),
     Span(Box<Tree<'a>>, Box<Tree<'a>>),
+    Listed(Members<'a>),
+    Each(Box<Tree<'a>>, Name<'a>, Box<Tree<'a>>),
+    Filtered(Box<Tree<'a>>, Name<'a>, Box<Tree<'a>>, Box<Tree<'a>>),
+    Tabled(Entries<'a>),
+}
+
+/// The members of a list.
+#[cycle(tree)]
+#[derive(Drop)]
+pub struct Members<'a> {
+    list: Vec<Tree<'a>>,
+    height: u32,
+}
+
+/// The keys and members of a table.
+#[cycle(tree)]
+#[derive(Drop)]
+pub struct Entries<'a> {
+    list: Vec<(Key<'a>, Tree<'a>)>,
+    height: u32,
 }
 
 impl<'a> Model for Tree<'a> {
-    ghost use Rattle.std.specs.Prelude.{◌≡◌, ◌≤◌};
+    ghost use Rattle.std.specs.Prelude.{◌≡◌, ◌≤◌, ◌*◌};
     ghost use Rattle.jl_syntax.specs.Trees.{Expression, height as height_of};
     ghost use Rattle.jl_syntax.specs.Codes.{coded_expression};
 
@@ -46,11 +65,106 @@ impl<'a> Model for Tree<'a> {
 
     ghost invariant = { λ t. (t.height ≡ height_of (expression_of t.node)) × (t.height ≤ 129) };
 
-    ghost size = { height_of };
+    ghost size = { λ e. 2 * height_of e };
 
     ghost use Rattle.std.proofs.Common.{arith};
+    ghost use Rattle.jl_syntax.specs.Falls.{deep_height};
 
-    ghost size_decreases = { λ a h. Prim.grind (arith) };
+    ghost size_decreases = { λ a h. omega (arith, deep_height a.node) };
+}
+
+impl<'a> Model for Members<'a> {
+    ghost use Rattle.std.specs.Prelude.{◌≡◌, ◌≤◌, ◌+◌, ◌*◌, List};
+    ghost use Rattle.jl_syntax.specs.Trees.{Expression, members_of, members_height};
+    ghost use Rattle.jl_syntax.specs.Codes.{coded_expressions};
+
+    ghost Value = { List Expression };
+
+    ghost coded = { coded_expressions };
+
+    ghost view = { λ m. m.list.items };
+
+    ghost invariant = { λ m. (m.height ≡ members_height (members_of m.list.items)) × (m.height ≤ 129) };
+
+    ghost size = { λ es. 2 * members_height (members_of es) + 1 };
+
+    ghost use Rattle.std.proofs.Common.{arith};
+    ghost use Rattle.jl_syntax.specs.Falls.{most_members};
+
+    ghost size_decreases = { λ a h. omega (arith, most_members a.list.items) };
+}
+
+impl<'a> Model for Entries<'a> {
+    ghost use Rattle.std.specs.Prelude.{◌≡◌, ◌≤◌, ◌+◌, ◌*◌, ℕ, List};
+    ghost use Rattle.jl_syntax.specs.Trees.{Expression, entries_of, entries_height};
+    ghost use Rattle.jl_syntax.specs.Codes.{coded_entries};
+
+    ghost Value = { List (List ℕ × Expression) };
+
+    ghost coded = { coded_entries };
+
+    ghost view = { λ m. m.list.items };
+
+    ghost invariant = { λ m. (m.height ≡ entries_height (entries_of m.list.items)) × (m.height ≤ 129) };
+
+    ghost size = { λ es. 2 * entries_height (entries_of es) + 1 };
+
+    ghost use Rattle.std.proofs.Common.{arith};
+    ghost use Rattle.jl_syntax.specs.Falls.{most_entries};
+
+    ghost size_decreases = { λ a h. omega (arith, most_entries a.list.items) };
+}
+
+impl<'a> Members<'a> {
+    pub(crate) fn new(alloc: Global) -> Members<'a>
+        ensures { result ≡ [] }
+    {
+        Members {
+            list: Vec::new(alloc),
+            height: 0,
+        }
+    }
+
+    pub fn as_slice(&self) -> &[Tree<'a>]
+        ensures { result.now ≡ self.now }
+    {
+        self.list.as_slice()
+    }
+
+    pub(crate) fn with(self, member: Tree<'a>) -> Result<Members<'a>, AllocError>
+        ensures { IfOk result (λ m. m ≡ self.entry ++ member.entry ∷ []) }
+    {
+        let Members { mut list, height } = self;
+        let height = height.max(member.height());
+        list.push(member)?;
+        Ok(Members { list, height })
+    }
+}
+
+impl<'a> Entries<'a> {
+    pub(crate) fn new(alloc: Global) -> Entries<'a>
+        ensures { result ≡ [] }
+    {
+        Entries {
+            list: Vec::new(alloc),
+            height: 0,
+        }
+    }
+
+    pub fn as_slice(&self) -> &[(Key<'a>, Tree<'a>)]
+        ensures { result.now ≡ self.now }
+    {
+        self.list.as_slice()
+    }
+
+    pub(crate) fn with(self, key: Key<'a>, member: Tree<'a>) -> Result<Entries<'a>, AllocError>
+        ensures { IfOk result (λ m. m ≡ self.entry ++ (key.entry, member.entry) ∷ []) }
+    {
+        let Entries { mut list, height } = self;
+        let height = height.max(member.height());
+        list.push((key, member))?;
+        Ok(Entries { list, height })
+    }
 }
 
 // What is kept of a node that is this high.
@@ -174,5 +288,49 @@ impl<'a> Tree<'a> {
         let first = Box::new(alloc, first)?;
         let end = Box::new(alloc, end)?;
         Ok(kept(Node::Span(first, end), height))
+    }
+
+    pub(crate) fn listed(members: Members<'a>) -> Tree<'a>
+        ensures { result ≡ kept_of (list (members_of members.entry)) }
+    {
+        let height = members.height + 1;
+        kept(Node::Listed(members), height)
+    }
+
+    pub(crate) fn tabled(entries: Entries<'a>) -> Tree<'a>
+        ensures { result ≡ kept_of (table (entries_of entries.entry)) }
+    {
+        let height = entries.height + 1;
+        kept(Node::Tabled(entries), height)
+    }
+
+    pub(crate) fn each(
+        alloc: Global,
+        member: Tree<'a>,
+        variable: Name<'a>,
+        source: Tree<'a>,
+    ) -> Result<Tree<'a>, AllocError>
+        ensures { IfOk result (λ t. t ≡ kept_of (each member.entry variable.entry source.entry)) }
+    {
+        let height = member.height().max(source.height()) + 1;
+        let member = Box::new(alloc, member)?;
+        let source = Box::new(alloc, source)?;
+        Ok(kept(Node::Each(member, variable, source), height))
+    }
+
+    pub(crate) fn filtered(
+        alloc: Global,
+        member: Tree<'a>,
+        variable: Name<'a>,
+        source: Tree<'a>,
+        condition: Tree<'a>,
+    ) -> Result<Tree<'a>, AllocError>
+        ensures { IfOk result (λ t. t ≡ kept_of (filtered member.entry variable.entry source.entry condition.entry)) }
+    {
+        let height = member.height().max(source.height().max(condition.height())) + 1;
+        let member = Box::new(alloc, member)?;
+        let source = Box::new(alloc, source)?;
+        let condition = Box::new(alloc, condition)?;
+        Ok(kept(Node::Filtered(member, variable, source, condition), height))
     }
 }

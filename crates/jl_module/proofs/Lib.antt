@@ -1,0 +1,5 @@
+pub mod NameLemmas
+pub mod ScopeLemmas
+pub mod ReaderLemmas
+pub mod LineLemmas
+pub mod BodyLemmas

@@ -1,0 +1,6 @@
+pub mod Headings
+pub mod Scopes
+pub mod Lines
+pub mod Modules
+pub mod Checks
+pub mod ModuleLaws

@@ -1,0 +1,18 @@
+//! The definition language's lines and modules: definitions, the names that they may use, and faults.
+#![tactic(auto)]
+
+mod fault;
+mod known;
+mod laws;
+mod module;
+mod names;
+mod reader;
+
+pub use fault::LineFault;
+pub use laws::a_line_is_judged_by_its_tree;
+pub use module::{find, module_fault};
+pub use names::Names;
+pub use reader::{Definition, read_definition};
+
+#[cfg(test)]
+mod tests;
