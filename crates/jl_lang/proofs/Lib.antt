@@ -1,4 +1,5 @@
-pub mod CallLemmas
-pub mod OperationLemmas
-pub mod Division
+pub mod ListLaws
+pub mod EntryLemmas
+pub mod OverLemmas
+pub mod EachLemmas
 pub mod Counts

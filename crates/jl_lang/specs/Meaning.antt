@@ -1,22 +1,21 @@
 -- What a definition answers on arguments, and the count of its steps.
-use Rattle.std.specs.Prelude.{ℕ, ◌+◌, Bool, true, false, not, nat_lt, if◌then◌else◌, List, [], ◌∷◌, length, Option, Some, None, Result, Ok, Err}
+use Rattle.std.specs.Prelude.{ℕ, ◌+◌, Bool, true, false, not, nat_lt, if◌then◌else◌, List, [], ◌∷◌, ◌++◌, length, Option, Some, None}
 use Rattle.std.specs.List.{list_any, list_all}
 use Rattle.std.specs.Str.{bytes_eq}
-use Rattle.jl_value.specs.Tree.{Tree, null, truth, whole, text, list, table, numbers, Items, no_items, item, Members, no_members, member, nesting}
+use Rattle.jl_value.specs.Tree.{Tree, truth, list, table, items_of, members_of, nesting}
 use Rattle.jl_value.specs.Canonical.{text_of}
 use Rattle.jl_value.specs.Library.{Answer, value, error}
-use Rattle.jl_value.specs.declared.library.TaskError.{TaskError}
 use Rattle.jl_value.specs.declared.library.TaskError.TheVariants.{NoArgument, ExtraArgument, BadKind, TooLong, TooDeep}
-use Rattle.jl_syntax.specs.declared.operators.Operator.{Operator}
-use Rattle.jl_syntax.specs.declared.operators.Operator.TheVariants.{Or, And, Equal, Unequal, Less, AtMost, Greater, AtLeast, Plus, Minus, Times, Quotient, Remainder}
-use Rattle.jl_syntax.specs.Words.{constant_of}
-use Rattle.jl_syntax.specs.Trees.{Expression, tall, leaf, bracketed, before, between, choice, index, call, span, list as listed, each, filtered, table as tabled}
-use Rattle.jl_syntax.specs.Headings.{Definition, Reading, bad, good, definition_in}
-use Rattle.jl_lang.specs.declared.settled.Settled.{Settled}
-use Rattle.jl_lang.specs.declared.settled.Settled.TheVariants.{Known, Open, Wrong, Both}
-use Rattle.jl_lang.specs.Steps.{Ran, done, failed, then', counted, operated}
-use Rattle.jl_lang.specs.Operations.{operation, prefixed, element_of}
-use Rattle.jl_lang.specs.Calls.{call_value, range_of}
+use Rattle.jl_signs.specs.declared.operators.Operator.{Operator}
+use Rattle.jl_signs.specs.Words.{constant_of, key_in}
+use Rattle.jl_syntax.specs.Trees.{Expression, tall, leaf, bracketed, before, between, choice, index, call, span, list as listed, each, filtered, table as tabled, Members, no_members, member, Entries, no_entries, entry}
+use Rattle.jl_module.specs.Headings.{Definition, Reading, bad, good, definition_in}
+use Rattle.jl_operations.specs.declared.settled.Settled.{Settled}
+use Rattle.jl_operations.specs.declared.settled.Settled.TheVariants.{Known, Open, Wrong, Both}
+use Rattle.jl_operations.specs.Steps.{Ran, done, failed, then', counted, operated}
+use Rattle.jl_operations.specs.Operations.{operation, prefixed, element_of, settle}
+use Rattle.jl_operations.specs.Calls.{call_value, range_of}
+use Rattle.jl_operations.specs.Lists.{source_of, each_over, filtered_over, over, with_entry}
 
 -- the argument of a name
 abbrev pub argument : List ℕ → List (List ℕ × Tree) → Option Tree
@@ -31,16 +30,6 @@ named n (Some v) = counted n v
 abbrev pub word_value : List (List ℕ × Tree) → List ℕ → Option Tree → ℕ → Ran
 word_value ps w (Some v) n = counted n v
 word_value ps w None n = named n (argument w ps)
-
--- what the left side of an operator tells: the value, that the right side decides, that it is no truth, or that both sides are needed
-abbrev pub settle : Operator → Tree → Settled
-settle Or (truth true) = Known true
-settle Or (truth false) = Open
-settle Or _ = Wrong
-settle And (truth true) = Open
-settle And (truth false) = Known false
-settle And _ = Wrong
-settle _ _ = Both
 
 -- a truth, as the right side of `or` and `and` is to be
 abbrev pub truth_counted : Tree → ℕ → Ran
@@ -65,20 +54,31 @@ chosen (truth false) n first last = again (last n)
 chosen _ n first last = failed BadKind
 
 -- the value of an expression behind a count of steps: its parts from left to right, each value counted before it is made
-abbrev pub value_of : List (List ℕ × Tree) → Expression → ℕ → Ran
-value_of ps tall n = failed BadKind
-value_of ps (leaf w) n = word_value ps w (constant_of w) n
-value_of ps (bracketed e) n = value_of ps e n
-value_of ps (before p e) n = then' (value_of ps e n) (λ v m. operated m (prefixed p v))
-value_of ps (between o a b) n = then' (value_of ps a n) (λ v m. settled o v (settle o v) m (λ k. value_of ps b k))
-value_of ps (choice a c b) n = then' (value_of ps c n) (λ v m. chosen v m (λ k. value_of ps a k) (λ k. value_of ps b k))
-value_of ps (index a i) n = then' (value_of ps a n) (λ v m. then' (value_of ps i m) (λ w k. operated k (element_of v w)))
-value_of ps (call f e) n = then' (value_of ps e n) (λ v m. operated m (call_value f v))
-value_of ps (span a b) n = then' (value_of ps a n) (λ v m. then' (value_of ps b m) (λ w k. operated k (range_of v w)))
-value_of ps (listed ms) n = failed BadKind
-value_of ps (each e x a) n = failed BadKind
-value_of ps (filtered e x a c) n = failed BadKind
-value_of ps (tabled es) n = failed BadKind
+abbrev mutual
+  pub value_of : List (List ℕ × Tree) → Expression → ℕ → Ran
+  value_of ps tall n = failed BadKind
+  value_of ps (leaf w) n = word_value ps w (constant_of w) n
+  value_of ps (bracketed e) n = value_of ps e n
+  value_of ps (before p e) n = then' (value_of ps e n) (λ v m. operated m (prefixed p v))
+  value_of ps (between o a b) n = then' (value_of ps a n) (λ v m. settled o v (settle o v) m (λ k. value_of ps b k))
+  value_of ps (choice a c b) n = then' (value_of ps c n) (λ v m. chosen v m (λ k. value_of ps a k) (λ k. value_of ps b k))
+  value_of ps (index a i) n = then' (value_of ps a n) (λ v m. then' (value_of ps i m) (λ w k. operated k (element_of v w)))
+  value_of ps (call f e) n = then' (value_of ps e n) (λ v m. operated m (call_value f v))
+  value_of ps (span a b) n = then' (value_of ps a n) (λ v m. then' (value_of ps b m) (λ w k. operated k (range_of v w)))
+  value_of ps (listed ms) n = members_value ps ms [] n
+  value_of ps (each e x a) n = then' (value_of ps a n) (λ v m. over (source_of v) (λ us. each_over (λ u k. value_of ((x, u) ∷ ps) e k) us [] m))
+  value_of ps (filtered e x a c) n = then' (value_of ps a n) (λ v m. over (source_of v) (λ us. filtered_over (λ u k. value_of ((x, u) ∷ ps) c k) (λ u k. value_of ((x, u) ∷ ps) e k) us [] m))
+  value_of ps (tabled es) n = entries_value ps es [] n
+
+  -- a list, whose first members are these
+  pub members_value : List (List ℕ × Tree) → Members → List Tree → ℕ → Ran
+  members_value ps no_members vs n = counted n (list (items_of vs))
+  members_value ps (member e ms) vs n = then' (value_of ps e n) (λ v m. members_value ps ms (vs ++ v ∷ []) m)
+
+  -- a table, which has these members so far
+  pub entries_value : List (List ℕ × Tree) → Entries → List (List ℕ × Tree) → ℕ → Ran
+  entries_value ps no_entries kvs n = counted n (table (members_of kvs))
+  entries_value ps (entry k e es) kvs n = then' (value_of ps e n) (λ v m. entries_value ps es (with_entry (key_in k) v kvs) m)
 
 -- a value may nest 64 deep, and its text may have 2 ^ 20 bytes
 abbrev pub limited : Ran → Answer

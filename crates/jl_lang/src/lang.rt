@@ -2,16 +2,16 @@ ghost use Rattle.std.specs.Prelude.{◌≡◌, [], Some, MatchResult, IfOk, map,
 ghost use Rattle.jl_value.specs.Form.{tree_of, entries_of};
 ghost use Rattle.jl_value.specs.Canonical.{text_of};
 ghost use Rattle.jl_value.specs.Library.{value as answered_value, IfDone};
-ghost use Rattle.jl_syntax.specs.Trees.{Expression};
-ghost use Rattle.jl_lang.specs.Steps.{done};
+ghost use Rattle.jl_operations.specs.Steps.{done};
 ghost use Rattle.jl_lang.specs.Meaning.{has_argument as has_argument_of, has_arguments as has_arguments_of, has_parameters as has_parameters_of, limited as limited_of, called as called_of, answer_of, value_of};
-ghost use Rattle.jl_syntax.specs.Lines.{definition_read};
+ghost use Rattle.jl_module.specs.Lines.{definition_read};
 ghost use Rattle.jl_lang.specs.Outcomes.{IsError};
 
-use crate::evaluator::{Counted, evaluate};
-use crate::fault::CallFault;
-use crate::weights::nests_within;
-use jl_syntax::{Definition, LineFault, Names, Tree, find, module_fault, read_definition};
+use crate::evaluator::evaluate;
+use crate::scope::Scope;
+use jl_module::{Definition, LineFault, Names, find, module_fault, read_definition};
+use jl_operations::{CallFault, Counted, nests_within};
+use jl_syntax::Tree;
 use jl_text::Text;
 use jl_value::{Args, Called, CodeRef, Library, Outcome, ReadModule, TaskError, Value, canonical};
 use std::alloc::{AllocError, Global};
@@ -94,7 +94,7 @@ fn evaluated(alloc: Global, args: &Args, body: &Tree) -> Result<Value, CallFault
     ensures { MatchResult result (λ v. limited_of (value_of args.now body.now 0) ≡ answered_value (tree_of v))
         (λ e. IsError e (limited_of (value_of args.now body.now 0))) }
 {
-    let ran = evaluate(alloc, args, body, 0)?;
+    let ran = evaluate(alloc, &Scope::Arguments(args), body, 0)?;
     limited(alloc, ran)
 }
 
@@ -133,9 +133,9 @@ fn outcome(alloc: Global, code: &str, args: &Args) -> Called
 }
 
 impl Library for Lang {
-    ghost use Rattle.jl_syntax.specs.Modules.{code_in, line_in, fault_of};
+    ghost use Rattle.jl_module.specs.Modules.{code_in, line_in, fault_of};
     ghost use Rattle.jl_lang.specs.Meaning.{answer_of};
-    ghost use Rattle.jl_syntax.specs.ModuleLaws.{code_named, lines_from_one, code_short, module_utf8};
+    ghost use Rattle.jl_module.specs.ModuleLaws.{code_named, lines_from_one, code_short, module_utf8};
     ghost use Rattle.jl_lang.specs.AnswerLaws.{answers_within};
 
     ghost code = { code_in };

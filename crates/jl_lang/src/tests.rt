@@ -459,6 +459,17 @@ fn repeated(alloc: Global, sign: &[u8], times: u32, end: &[u8]) -> Result<Vec<u8
     Ok(module)
 }
 
+fn error_of(alloc: Global, module: &[u8]) -> Option<TaskError> {
+    let Ok(module) = str::from_utf8(module) else {
+        return Some(TaskError::BadKind);
+    };
+    match outcome(alloc, module, "f", "{\"a\":1}") {
+        Some(Outcome::Error(error)) => Some(error),
+        Some(Outcome::Value(_)) => None,
+        None => Some(TaskError::BadKind),
+    }
+}
+
 fn deep() -> Option<ModuleFault> {
     at(1, ModuleFaultKind::TooDeep)
 }
@@ -511,6 +522,12 @@ fn keeps_brackets_low(rt: HostRuntime) -> Result<(), Fail> {
         ("len(", 129, "?", deep()),
         ("range(a, ", 128, "a", bad()),
         ("range(a, ", 129, "?", deep()),
+        ("[", 128, "a", bad()),
+        ("[", 129, "?", deep()),
+        ("{\"k\": ", 128, "a", bad()),
+        ("{\"k\": ", 129, "?", deep()),
+        ("[a for a in ", 128, "a", bad()),
+        ("[a for a in ", 129, "?", deep()),
     ] {
         assert!(rt;
             repeated_fault(alloc, sign, times, end)? == want,
@@ -548,6 +565,30 @@ fn reads_a_mebibyte_of_nots(rt: HostRuntime) -> Result<(), Fail> {
 fn reads_a_mebibyte_of_choices(rt: HostRuntime) -> Result<(), Fail> {
     let alloc = rt.alloc();
     let module = repeated(alloc, b"a if a else ".as_slice(), 87_379, b"a".as_slice())?;
+    assert!(rt; fault(alloc, module.as_slice()) == at(1, ModuleFaultKind::TooDeep));
+    Ok(())
+}
+
+#[test]
+fn nests_no_deeper_than_allowed(rt: HostRuntime) -> Result<(), Fail> {
+    let alloc = rt.alloc();
+    for (times, want) in [(64, None), (65, Some(TaskError::TooDeep))] {
+        let mut module = repeated(alloc, b"[".as_slice(), times, b"".as_slice())?;
+        for _ in 0..times {
+            module.extend_from_slice(b"]".as_slice())?;
+        }
+        assert!(rt;
+            error_of(alloc, module.as_slice()) == want,
+            "at {times} times"
+        );
+    }
+    Ok(())
+}
+
+#[test]
+fn reads_a_mebibyte_of_lists(rt: HostRuntime) -> Result<(), Fail> {
+    let alloc = rt.alloc();
+    let module = repeated(alloc, b"[".as_slice(), 1_048_566, b"".as_slice())?;
     assert!(rt; fault(alloc, module.as_slice()) == at(1, ModuleFaultKind::TooDeep));
     Ok(())
 }

@@ -1,5 +1,12 @@
-use Rattle.std.proofs.Common.{◌+◌, ◌*◌, max}
-use Rattle.jl_syntax.specs.Trees.{height}
+use Rattle.std.proofs.Common.{◌≡◌, ◌≤◌, ◌+◌, ◌*◌, max, [], ◌∷◌, drop}
+use Rattle.jl_value.specs.Tree.{members_of as pairs_of}
+use Rattle.jl_value.specs.Form.{trees_of}
+use Rattle.jl_value.specs.Proper.{AreKeys, keys}
+use Rattle.jl_syntax.specs.Trees.{height, members_of, members_height, entries_of, entries_height}
+use Rattle.jl_operations.specs.Lists.{each_over, filtered_over}
+use Rattle.jl_lang.specs.Meaning.{value_of, members_value, entries_value}
+use Rattle.jl_operations.specs.Outcomes.{pairs_in}
+use Rattle.jl_lang.specs.Scopes.{scope_of}
 use Rattle.jl_lang.proofs.evaluator.+evaluate.Given as goal
 
 abbrev pub decreases-evaluate : goal.decreases-evaluate
@@ -31,3 +38,45 @@ decreases-called l = 4 * height l.member.now + 3
 
 abbrev pub decreases-spanned : goal.decreases-spanned
 decreases-spanned l = 4 * max (height l.first.now) (height l.end.now) + 3
+
+abbrev pub decreases-listed : goal.decreases-listed
+decreases-listed l = 4 * members_height (members_of l.members.now) + 3
+
+abbrev pub decreases-tabled : goal.decreases-tabled
+decreases-tabled l = 4 * entries_height (entries_of l.entries.now) + 3
+
+abbrev pub decreases-each : goal.decreases-each
+decreases-each l = 4 * max (height l.member.now) (height l.over.now) + 3
+
+abbrev pub decreases-each_over : goal.decreases-each_over
+decreases-each_over l = 4 * height l.member.now + 2
+
+abbrev pub decreases-filtered : goal.decreases-filtered
+decreases-filtered l = 4 * max (height l.member.now) (max (height l.over.now) (height l.condition.now)) + 3
+
+abbrev pub decreases-filtered_over : goal.decreases-filtered_over
+decreases-filtered_over l = 4 * max (height l.member.now) (height l.condition.now) + 2
+
+abbrev pub decreases-take_member : goal.decreases-take_member
+decreases-take_member l = 4 * max (height l.member.now) (height l.condition.now) + 1
+
+abbrev pub invariant-listed-loop-member : goal.invariant-listed-loop-member
+invariant-listed-loop-member l =
+    (l.count ≤ 16777216)
+    × (members_value (scope_of l.scope) (members_of (drop l.member-index l.members)) (trees_of l.values.items) l.count ≡ members_value (scope_of l.scope) (members_of l.members) [] l.start)
+
+abbrev pub invariant-tabled-loop-key : goal.invariant-tabled-loop-key
+invariant-tabled-loop-key l =
+    (l.count ≤ 16777216) × AreKeys (keys (pairs_of (pairs_in l.members.entries)))
+    × (entries_value (scope_of l.scope) (entries_of (drop l.key-index l.entries)) (pairs_in l.members.entries) l.count ≡ entries_value (scope_of l.scope) (entries_of l.entries) [] l.start)
+
+abbrev pub invariant-each_over-loop-item : goal.invariant-each_over-loop-item
+invariant-each_over-loop-item l =
+    (l.count ≤ 16777216)
+    × (each_over (λ u k. value_of ((l.variable, u) ∷ scope_of l.scope) l.member k) (trees_of (drop l.item-index l.items)) (trees_of l.values.items) l.count ≡ each_over (λ u k. value_of ((l.variable, u) ∷ scope_of l.scope) l.member k) (trees_of l.items) [] l.start)
+
+abbrev pub invariant-filtered_over-loop-item : goal.invariant-filtered_over-loop-item
+invariant-filtered_over-loop-item l =
+    (l.count ≤ 16777216)
+    × (filtered_over (λ u k. value_of ((l.variable, u) ∷ scope_of l.scope) l.condition k) (λ u k. value_of ((l.variable, u) ∷ scope_of l.scope) l.member k) (trees_of (drop l.item-index l.items)) (trees_of l.taken_values.items) l.count
+    ≡ filtered_over (λ u k. value_of ((l.variable, u) ∷ scope_of l.scope) l.condition k) (λ u k. value_of ((l.variable, u) ∷ scope_of l.scope) l.member k) (trees_of l.items) [] l.start)
