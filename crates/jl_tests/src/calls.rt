@@ -6,6 +6,12 @@ use std::test::Fail;
 const MODULE: &str =
     "# a small study\ndef square(x): x * x\ndef add(a, b): a + b\n\ndef next(x): x + 1\n";
 
+const STUDY: &str = "# a small study
+def square(x): x * x
+def mean(xs): sum(xs) // len(xs) if len(xs) > 0 else 0
+def table(n, step): {\"n\": n, \"points\": [i * step for i in range(n)]}
+";
+
 fn call(alloc: Global, module: &str, name: &str, args: &str) -> Result<Ran, Fail> {
     let words = ["call", "--module", "m.def", "--location", "c", name, args];
     let stage = set_stage(alloc, module, Vec::new(alloc), Vec::new(alloc))?;
@@ -42,6 +48,25 @@ fn a_call_prints_the_value(rt: HostRuntime) -> Result<(), Fail> {
     ];
     for (name, args, output) in rows {
         let found = call(rt.alloc(), MODULE, name, args)?;
+        assert!(rt; is(&found, 0, output, ""), "{name} {args}: {found:?}");
+    }
+    Ok(())
+}
+
+#[test]
+fn a_study_makes_lists_and_tables(rt: HostRuntime) -> Result<(), Fail> {
+    let rows = [
+        ("square", "{\"x\":12}", "144\n"),
+        ("mean", "{\"xs\":[3,5,10]}", "6\n"),
+        (
+            "table",
+            "{\"n\":4,\"step\":-3}",
+            "{\"n\":4,\"points\":[0,-3,-6,-9]}\n",
+        ),
+        ("mean", "{\"xs\":{\"$i64\":[]}}", "0\n"),
+    ];
+    for (name, args, output) in rows {
+        let found = call(rt.alloc(), STUDY, name, args)?;
         assert!(rt; is(&found, 0, output, ""), "{name} {args}: {found:?}");
     }
     Ok(())
