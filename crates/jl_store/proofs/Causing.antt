@@ -58,7 +58,7 @@ at_right : (s : State) (P : State → Type 0) (xs ys : Trace) → AtSome (run s 
 at_right s P xs ys at = (xs ++ at.0, at.1, ap (λ (t : Trace). xs ++ t) at.2 ∙ sym (append_assoc xs at.0 at.1), subst P (sym (run-append s xs at.0)) at.3)
 
 module _ (old mid new : History) (first : GoesOn old mid) (second : GoesOn mid new) where
-  parts : since old new ≡ since old mid ++ since mid new
+  pub parts : since old new ≡ since old mid ++ since mid new
   parts = since_then old mid new (since old mid) (since mid new) (went_since old mid first) (went_since mid new second)
 
   middle : now mid ≡ run (now old) (since old mid)

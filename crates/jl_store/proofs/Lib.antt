@@ -23,6 +23,7 @@ pub mod Making
 pub mod NamePlaces
 pub mod PartWarnings
 pub mod Readiness
+pub mod SilentLemmas
 pub mod SkipCauses
 pub mod StorePaths
 pub mod StoringLemmas

@@ -9,6 +9,7 @@ pub mod Next
 pub mod Parts
 pub mod Publishing
 pub mod Reading
+pub mod Silent
 pub mod Storing
 pub mod Trust
 pub mod Warned

@@ -10,6 +10,7 @@ use Rattle.jl_store.proofs.Lawfully.{lawful_none, lawful_by}
 use Rattle.jl_store.proofs.Truths.{is_entry, entry_true}
 use Rattle.jl_store.proofs.Causing.{warns_none}
 use Rattle.jl_store.proofs.PartWarnings.{keep_warned, keep_used}
+use Rattle.jl_store.proofs.SilentLemmas.{none_added, kept_silent}
 use Rattle.jl_store.proofs.LoneMoves.{lone_untouched}
 use Rattle.jl_store.proofs.LoneCalls.{kept_alone}
 use Rattle.jl_store.proofs.cached.computed.Goals as goal
@@ -77,3 +78,11 @@ returns-in-Ok-warn_of-clause-alone g c = λ told lone ready rose is.
     (λ skipped. lone_untouched token (UsesEntry e token) (since old new) lone ((c.keep-kept.ensures.called told).skipped skipped ready))
     (λ fault. rose (c.keep-kept.ensures.faults.failed fault)) in
     c.keep-kept.ensures.alone told kept lone
+
+pub returns-in-Ok-warn_of-clause-silent : goal.returns-in-Ok-warn_of-clause-silent
+returns-in-Ok-warn_of-clause-silent g c = λ told none is.
+    let name = c.args.name.now in
+    let key = c.in-Ok.key in
+    let kept = c.keep-kept.result in
+    let nothing = none_added c.args.warnings.now.items c.warn_of.new.warnings.items (keep_warns kept name key) c.in-Ok-warn_of.ensures.ok none in
+    (c.keep-kept.ensures.called told).kept (kept_silent kept name key c.in-Ok-warn_of.ensures.memory nothing)

@@ -13,6 +13,7 @@ use Rattle.jl_store.proofs.Lawfully.{Lawfully, lawful_by}
 use Rattle.jl_store.proofs.Truths.{this_true, only_final, moment_true}
 use Rattle.jl_store.proofs.Causing.{warns_none}
 use Rattle.jl_store.proofs.PartWarnings.{keep_warned, touch_used}
+use Rattle.jl_store.proofs.SilentLemmas.{none_added, kept_silent}
 use Rattle.jl_store.proofs.LoneMoves.{lone_untouched}
 use Rattle.jl_store.proofs.LoneCalls.{kept_alone}
 use Rattle.jl_store.proofs.cached.found.Goals as goal
@@ -66,3 +67,11 @@ returns-in-Ok-clause-alone g c = λ told lone ready rose is.
     (λ skipped. lone_untouched token (UsesNames (last_of e Access) (temp_of e token Access)) (since old new) lone ((c.touch-kept.ensures.called told).skipped skipped ready))
     (λ fault. rose (c.touch-kept.ensures.faults.failed fault)) in
     (c.now-moment.result, c.touch-kept.ensures.alone told kept lone, λ tells. c.now-moment.ensures.moment tells)
+
+pub returns-in-Ok-clause-silent : goal.returns-in-Ok-clause-silent
+returns-in-Ok-clause-silent g c = λ told none is.
+    let name = c.args.name.now in
+    let key = c.args.key.now in
+    let kept = c.touch-kept.result in
+    let nothing = none_added c.args.warnings.now.items c.warn_of.new.warnings.items (keep_warns kept name key) c.in-Ok.ensures.ok none in
+    (c.touch-kept.ensures.called told).kept (kept_silent kept name key c.in-Ok.ensures.memory nothing)

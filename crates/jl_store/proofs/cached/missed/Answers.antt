@@ -1,16 +1,17 @@
 use Rattle.std.proofs.Common.{◌≡◌, ◌∙◌, ℕ, ◌-◌, List, ap, refl, sym, subst}
 use Rattle.jl_streams.specs.Moments.{moment_of, moments_after}
-use Rattle.jl_folder.specs.State.{now}
+use Rattle.jl_folder.specs.State.{now, since}
 use Rattle.jl_value.specs.Form.{tree_of}
 use Rattle.jl_value.specs.Library.{outcome_of}
 use Rattle.jl_value.specs.Key.{key_of}
-use Rattle.jl_store.specs.Keeping.{HasEntry, entry_in, texts}
-use Rattle.jl_store.specs.Next.{asked}
+use Rattle.jl_store.specs.Keeping.{HasEntry, HasPutAll, entry_in, texts}
+use Rattle.jl_store.specs.Next.{asked, entry_asked}
 use Rattle.jl_store.specs.Parts.{HasFunction}
 use Rattle.jl_store.proofs.Answering.{within_value}
 use Rattle.jl_store.proofs.Lawfully.{lawful_none}
 use Rattle.jl_store.proofs.Causing.{warns_none}
 use Rattle.jl_store.proofs.LoneCalls.{computed_leaves, error_leaves, memory_leaves}
+use Rattle.jl_store.proofs.SilentLemmas.{computed_silent}
 use Rattle.jl_store.proofs.cached.missed.Goals as goal
 
 pub computed-requires-clause-keepable : goal.computed-requires-clause-keepable
@@ -79,3 +80,11 @@ pub returns-in-NoMemory-clause-alone : goal.returns-in-NoMemory-clause-alone
 returns-in-NoMemory-clause-alone g c = λ told n lone ready rose stands.
     let s = now (g.F.Folder.history c.args.folder.now) in
     memory_leaves (asked c.args.memory.now c.args.name.now c.args.code.now n c.args.args.now) s s (g.H.Host.told c.args.host.now) (g.H.Host.moments c.args.host.now)
+
+pub returns-in-Done-Value-clause-silent : goal.returns-in-Done-Value-clause-silent
+returns-in-Done-Value-clause-silent g c = λ told n none.
+    let folder = g.F.Folder in
+    let a = asked c.args.memory.now c.args.name.now c.args.code.now n c.args.args.now in
+    let moves = since (folder.history c.args.folder.now) (folder.history c.computed.new.folder) in
+    computed_silent a moves c.computed.result c.in-Done-Value.value c.computed.ensures.computed
+    (λ is. subst (λ (u : List ℕ). HasPutAll (entry_asked a) u moves) c.requires.token (c.computed.ensures.silent told none is))
