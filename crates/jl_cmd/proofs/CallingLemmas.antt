@@ -103,7 +103,7 @@ neither : (n : ℕ) → (n ≡ 0 → ⊥) → (n ≡ 1 → ⊥) → (n ≡ 0) �
 neither n zero one (inl e) = zero e
 neither n zero one (inr e) = one e
 
-status_at : (e : Ended) (P : ℕ → Type 0) → EndedAt e P → StatusAt (status_of e) P
+pub status_at : (e : Ended) (P : ℕ → Type 0) → EndedAt e P → StatusAt (status_of e) P
 status_at Done P h = λ n. h
 status_at (Failed t) P h = λ n. h
 status_at Usage P h = λ n. absurd (neither 2 (λ e. omega arith) (λ e. omega arith) n)
@@ -185,7 +185,7 @@ module _ (a : Asked) (old mid new : History) (tells tells' : Type 0) (first : te
 memory_same : (x : Memory) (location : PathView) (m token : List ℕ) → x.location ≡ location → x.«module» ≡ m → x.token ≡ token → x ≡ memory_at location m token
 memory_same x location m token e f g = λ i. record { location = e i; «module» = f i; token = g i }
 
-named_memory : (x : Memory) (file location : PathView) (m token : List ℕ) → x.location ≡ location → module_name_of file ≡ Some x.«module» → x.token ≡ token → module_name_of file ≡ Some m → x ≡ memory_at location m token
+pub named_memory : (x : Memory) (file location : PathView) (m token : List ℕ) → x.location ≡ location → module_name_of file ≡ Some x.«module» → x.token ≡ token → module_name_of file ≡ Some m → x ≡ memory_at location m token
 named_memory x file location m token e named g is = memory_same x location m token e (one_value (module_name_of file) x.«module» m named is) g
 
 -- ---- the command

@@ -3,6 +3,7 @@ pub mod CacheLemmas
 pub mod CallingLemmas
 pub mod ClearEnds
 pub mod ClearLemmas
+pub mod ComingLemmas
 pub mod EndingLemmas
 pub mod IdleLemmas
 pub mod MadeAnswers

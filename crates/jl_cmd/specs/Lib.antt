@@ -2,6 +2,7 @@ pub mod Arguments
 pub mod Caches
 pub mod Calling
 pub mod Clears
+pub mod Coming
 pub mod Commands
 pub mod Endings
 pub mod Following

@@ -1,5 +1,5 @@
 // The top call.
-ghost use Rattle.std.specs.Prelude.{◌≡◌, ◌⊎◌, ◌≤◌, ◌++◌, ℕ, List, Some, None};
+ghost use Rattle.std.specs.Prelude.{◌≡◌, ◌⊎◌, ◌≤◌, ◌++◌, ℕ, List, [], Some, None};
 ghost use Rattle.jl_text.specs.Counts.{Rose};
 ghost use Rattle.jl_folder.specs.State.{since};
 ghost use Rattle.jl_claims.specs.Steps.{OwnMoves};
@@ -17,6 +17,7 @@ ghost use Rattle.jl_cmd.specs.Promises.{IsWhole, IsSilent, IsStatus, IsUnmoved, 
 ghost use Rattle.jl_cmd.specs.Promises.{Answers, AnswersFront, CountsCalls, IsValid, IsFaultless, IsComplete};
 ghost use Rattle.jl_cmd.specs.Calling.{EndedAt, course_of};
 ghost use Rattle.jl_cmd.specs.Saying.{GivenLines, SaidBy, GivenLeaves, StatusAt};
+ghost use Rattle.jl_cmd.specs.Coming.{GivenComes, SaidNothing};
 ghost use Rattle.jl_cmd.specs.Run.{GivenCalls, AreCalling};
 
 use crate::call::{Warned, call, ended, finish};
@@ -69,6 +70,9 @@ fn given<L: Library, F: Folder, S: Source, O: Sink, E: Sink, H: Host>(
     ensures alone { GivenLeaves (command_of settings.now)
         (course_of L.code L.line F.told F.token F.history F.faults folder.old folder.new) L.answer
         (H.told host.old) (H.moments host.old) (L.calls lib.old) (L.calls lib.new) (EndedAt result.ended) }
+    ensures comes { GivenComes (command_of settings.now)
+        (course_of L.code L.line F.told F.token F.history F.faults folder.old folder.new)
+        (L.calls lib.old) (L.calls lib.new) (λ status. result.lines ≡ []) (EndedAt result.ended) }
     ensures idle { F.told folder.old → IsUnmoved (command_of settings.now) (status_of result.ended)
         → OwnMoves (F.token folder.old) Silent (since (F.history folder.old) (F.history folder.new)) }
     ensures clears { GivenClears (command_of settings.now) (result.ended ≡ Done)
@@ -160,6 +164,9 @@ fn command<L: Library, F: Folder, S: Source, O: Sink, E: Sink, H: Host>(
     ensures alone { GivenLeaves (given_by words.now (H.processors host.old))
         (course_of L.code L.line F.told F.token F.history F.faults folder.old folder.new) L.answer
         (H.told host.old) (H.moments host.old) (L.calls lib.old) (L.calls lib.new) (EndedAt result.ended) }
+    ensures comes { GivenComes (given_by words.now (H.processors host.old))
+        (course_of L.code L.line F.told F.token F.history F.faults folder.old folder.new)
+        (L.calls lib.old) (L.calls lib.new) (λ status. result.lines ≡ []) (EndedAt result.ended) }
     ensures idle { F.told folder.old → IsUnmoved (given_by words.now (H.processors host.old)) (status_of result.ended)
         → OwnMoves (F.token folder.old) Silent (since (F.history folder.old) (F.history folder.new)) }
     ensures clears { GivenClears (given_by words.now (H.processors host.old)) (result.ended ≡ Done)
@@ -263,6 +270,10 @@ pub fn run<L: Library, F: Folder, S: Source, O: Sink, E: Sink, H: Host>(
     ensures alone { GivenLeaves (given_by words.now (H.processors host.old))
         (course_of L.code L.line F.told F.token F.history F.faults folder.old folder.new) L.answer
         (H.told host.old) (H.moments host.old) (L.calls lib.old) (L.calls lib.new) (StatusAt result) }
+    // Whatever others do: a value was found where its entry was opened, and else the function was called; and a call that said nothing left nothing undone.
+    ensures comes { GivenComes (given_by words.now (H.processors host.old))
+        (course_of L.code L.line F.told F.token F.history F.faults folder.old folder.new)
+        (L.calls lib.old) (L.calls lib.new) (SaidNothing (E.told err.old) (E.faults err.old) (E.faults err.new) (E.written err.old) (E.written err.new)) (StatusAt result) }
     // Whatever others do, a run that is refused makes no move.
     ensures idle { F.told folder.old → IsUnmoved (given_by words.now (H.processors host.old)) result
         → OwnMoves (F.token folder.old) Silent (since (F.history folder.old) (F.history folder.new)) }

@@ -14,6 +14,7 @@ use Rattle.jl_cmd.specs.Calling.{Course, course}
 use Rattle.jl_store.proofs.Lawfully.{lawful_none, lawful_waits, lawful_then, trusted_later}
 use Rattle.jl_cmd.proofs.CacheLemmas.{lawful_as, goes_lawful, reads_first}
 use Rattle.jl_cmd.proofs.CallingLemmas.{call_lines, call_leaves, written_at, memory_at_end, module_at_end, folder_at_end}
+use Rattle.jl_cmd.proofs.ComingLemmas.{written_comes}
 use Rattle.jl_cmd.proofs.IdleLemmas.{written_refusal, silent_waits, silent_none}
 use Rattle.jl_cmd.proofs.EndingLemmas.{finishes_command, finishes_so, computes_under}
 use Rattle.jl_cmd.proofs.call.call.Goals as goal
@@ -133,6 +134,39 @@ returns-in-Failed-clause-alone g c = λ told m is lone sound rose. folder_at_end
 
 pub returns-clause-alone : goal.returns-clause-alone
 returns-clause-alone g c = λ told m is lone sound rose. memory_at_end _ _ c.ended-in-NoMemory.ensures.ended
+
+pub returns-in-Bytes-clause-comes : goal.returns-in-Bytes-clause-comes
+returns-in-Bytes-clause-comes g c =
+    let folder = g.F.Folder in
+    let lib = g.L.Library in
+    let root = root_of c.args.location.now in
+    let old = folder.history c.args.folder.now in
+    let mid = folder.history c.read_file.new.folder in
+    let new = folder.history c.compute-computed.new.folder in
+    let token = folder.token c.args.folder.now in
+    let w : Course = course lib.code lib.line (folder.told c.args.folder.now) token old new (folder.faults c.args.folder.now) (folder.faults c.compute-computed.new.folder) in
+    let by : c.in-Ok.memory.token ≡ token = search rules in
+    let before = λ (is : w.tells). lawful_waits root lib.answer token old mid (c.read_file.ensures.waits is) in
+    let after = λ (is : w.tells). lawful_as lib.answer c.in-Ok.memory.location c.args.location.now (folder.token c.read_file.new.folder) token mid new c.in-Ok.ensures.location c.read_file.ensures.token (c.compute-computed.ensures.lawful (c.read_file.ensures.told is)) in
+    let m = c.as_slice.result.now in
+    written_comes w c.args.file.now c.args.location.now c.in-Ok.memory c.in-Ok.ensures.location c.in-Ok.ensures.module_name by m c.args.name.now c.args.args.now mid
+    _ _ c.compute-computed.result c.written.result.ended c.written.result.lines c.new-warnings.result.items c.compute-computed.new.warnings.items _ _ _ _ _ (folder.faults c.read_file.new.folder) (folder.told c.read_file.new.folder) c.new-warnings.ensures.items c.written.ensures.writes
+    (subst (λ (ws : List Warning). (c.written.result.lines ≡ warning_lines c.in-Ok.memory.«module» ws) ⊎ ((c.written.result.lines ≡ []) × (c.written.result.ended ≡ NoMemory))) c.as_slice-in-Bytes.ensures.value c.written.ensures.lines)
+    (λ is. goes_lawful root lib.answer token old mid (before is)) (λ is. goes_lawful root lib.answer token mid new (after is)) c.read_file.ensures.told c.read_file.ensures.faults.later
+    (λ is. reads_first root lib.answer token c.args.file.now m c.in-Bytes.bytes old mid new (sym c.as_slice.ensures) (before is) (after is) (c.in-Bytes.ensures.reads is))
+    c.compute-computed.ensures.comes
+
+pub returns-in_default-clause-comes : goal.returns-in_default-clause-comes
+returns-in_default-clause-comes g c = λ m is. memory_at_end _ _ c.ended.ensures.ended
+
+pub returns-in-NoFile-clause-comes : goal.returns-in-NoFile-clause-comes
+returns-in-NoFile-clause-comes g c = λ m is. module_at_end _ _ c.ended-in-NoFile.ensures.ended
+
+pub returns-in-Failed-clause-comes : goal.returns-in-Failed-clause-comes
+returns-in-Failed-clause-comes g c = λ m is. folder_at_end _ _ c.ended-in-Failed.ensures.ended
+
+pub returns-clause-comes : goal.returns-clause-comes
+returns-clause-comes g c = λ m is. memory_at_end _ _ c.ended-in-NoMemory.ensures.ended
 
 pub returns-in-Bytes-clause-idle : goal.returns-in-Bytes-clause-idle
 returns-in-Bytes-clause-idle g c = λ told un.

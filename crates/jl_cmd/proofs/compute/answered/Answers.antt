@@ -24,11 +24,47 @@ returns-in-Error-clause-alone g c = λ told code n is line lone sound rose.
     failed_at c.failed.result _ c.failed.ensures.failed
     (asked_leaves (asked c.args.memory.now c.args.name.now code n c.args.args.now) g.L.Library.answer (Error c.in-Error.error) _ _ _ _ _ _ _ _ _ told refl (c.in-Error.ensures.answer code is) c.in-Error.ensures.calls (c.call_cached.ensures.lawful told) lone sound (c.in-Error.ensures.alone told code n is line lone sound.tidy rose))
 
+pub returns-in-Hit-clause-comes : goal.returns-in-Hit-clause-comes
+returns-in-Hit-clause-comes g c = λ code n is line.
+    printed_at c.printed.result _ c.printed.ensures.printed
+    (record {
+      result = Hit c.in-Hit.value;
+      status = refl;
+      counts = c.in-Hit.ensures.calls;
+      comes = c.in-Hit.ensures.looks code is;
+      tidy = c.in-Hit.ensures.tidy code is;
+      done = c.in-Hit.ensures.silent code n is line;
+    })
+
 pub returns-in-Hit-clause-idle : goal.returns-in-Hit-clause-idle
 returns-in-Hit-clause-idle g c = λ refusal. absurd (printed_refuses c.printed.result c.printed.ensures.printed refusal)
 
+pub returns-in-Computed-clause-comes : goal.returns-in-Computed-clause-comes
+returns-in-Computed-clause-comes g c = λ code n is line.
+    printed_at c.printed-in-Computed.result _ c.printed-in-Computed.ensures.printed
+    (record {
+      result = Computed c.in-Computed.value;
+      status = refl;
+      counts = c.in-Computed.ensures.calls;
+      comes = c.in-Computed.ensures.looks code is;
+      tidy = c.in-Computed.ensures.tidy code is;
+      done = c.in-Computed.ensures.silent code n is line;
+    })
+
 pub returns-in-Computed-clause-idle : goal.returns-in-Computed-clause-idle
 returns-in-Computed-clause-idle g c = λ refusal. absurd (printed_refuses c.printed-in-Computed.result c.printed-in-Computed.ensures.printed refusal)
+
+pub returns-in-Error-clause-comes : goal.returns-in-Error-clause-comes
+returns-in-Error-clause-comes g c = λ code n is line.
+    failed_at c.failed.result _ c.failed.ensures.failed
+    (record {
+      result = Error c.in-Error.error;
+      status = refl;
+      counts = c.in-Error.ensures.calls;
+      comes = c.in-Error.ensures.looks code is;
+      tidy = c.in-Error.ensures.tidy code is;
+      done = c.in-Error.ensures.silent code n is line;
+    })
 
 pub returns-in-Error-clause-idle : goal.returns-in-Error-clause-idle
 returns-in-Error-clause-idle g c = λ refusal. absurd (failed_refuses c.failed.result c.failed.ensures.failed refusal)

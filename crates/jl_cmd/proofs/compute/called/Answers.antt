@@ -42,3 +42,17 @@ returns-then-is_none-clause-alone g c = λ told lone sound rose. refused_at c.re
 
 pub returns-in-Err-clause-alone : goal.returns-in-Err-clause-alone
 returns-in-Err-clause-alone g c = λ told lone sound rose. refused_at c.refused_arguments-in-Err.result _ c.refused_arguments-in-Err.ensures.refused
+
+pub returns-in-Ok-clause-comes : goal.returns-in-Ok-clause-comes
+returns-in-Ok-clause-comes g c =
+    let is : IsSome (g.L.Library.code (g.L.Library.loaded c.args.lib.now) c.args.name.now) = search rules in
+    let found = some_of (g.L.Library.code (g.L.Library.loaded c.args.lib.now) c.args.name.now) is in
+    computed_map c.answered.result _ _
+    (λ n h. (record { found = found.0; members = c.in-Ok.args; defined = found.1; given = c.in-Ok.ensures.given }, h))
+    (c.answered.ensures.comes found.0 (g.L.Library.line (g.L.Library.loaded c.args.lib.now) c.args.name.now) found.1 refl)
+
+pub returns-then-is_none-clause-comes : goal.returns-then-is_none-clause-comes
+returns-then-is_none-clause-comes g c = refused_at c.refused_arguments.result _ c.refused_arguments.ensures.refused
+
+pub returns-in-Err-clause-comes : goal.returns-in-Err-clause-comes
+returns-in-Err-clause-comes g c = refused_at c.refused_arguments-in-Err.result _ c.refused_arguments-in-Err.ensures.refused

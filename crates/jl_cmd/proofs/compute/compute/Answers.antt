@@ -3,6 +3,7 @@ use Rattle.jl_store.specs.declared.memory.Warning.{Warning}
 use Rattle.jl_folder.specs.State.{now}
 use Rattle.jl_store.proofs.Lawfully.{lawful_none}
 use Rattle.jl_cmd.specs.Calling.{CallWarns, LeavesCalled, ComputedAt}
+use Rattle.jl_cmd.specs.Coming.{ComesCalled}
 use Rattle.jl_cmd.proofs.CallingLemmas.{computed_map, refused_at}
 use Rattle.jl_cmd.proofs.compute.compute.Goals as goal
 
@@ -48,3 +49,20 @@ returns-in-Read-clause-alone g c = λ told lone sound rose.
     computed_map c.called.result (leaves (lib.loaded c.read_module.new.self) (lib.calls c.read_module.new.self)) (leaves c.args.bytes.now (lib.calls c.args.lib.now))
     (λ n h. subst (λ (k : ℕ). leaves c.args.bytes.now k n) calls (subst (λ (bytes : List ℕ). leaves bytes (lib.calls c.read_module.new.self) n) loaded h))
     (c.called.ensures.alone told lone sound rose)
+
+pub returns-then-bytes-gt-LIMIT-clause-comes : goal.returns-then-bytes-gt-LIMIT-clause-comes
+returns-then-bytes-gt-LIMIT-clause-comes g c = refused_at c.refused_module.result _ c.refused_module.ensures.refused
+
+pub returns-in-Fault-clause-comes : goal.returns-in-Fault-clause-comes
+returns-in-Fault-clause-comes g c = refused_at c.refused_module-in-Fault.result _ c.refused_module-in-Fault.ensures.refused
+
+pub returns-in-Read-clause-comes : goal.returns-in-Read-clause-comes
+returns-in-Read-clause-comes g c =
+    let lib = g.L.Library in
+    let loaded : lib.loaded c.read_module.new.self ≡ c.args.bytes.now = search rules in
+    let calls : lib.calls c.read_module.new.self ≡ lib.calls c.args.lib.now = search rules in
+    let folder = g.F.Folder in
+    let comes = λ (bytes : List ℕ) (k n : ℕ). ComesCalled lib.code lib.line c.args.memory.now bytes c.args.name.now c.args.args.now (folder.told c.args.folder.now) (folder.faults c.args.folder.now) (folder.faults c.called.new.folder) (folder.history c.args.folder.now) (folder.history c.called.new.folder) k (lib.calls c.called.new.lib) (λ status. c.called.new.warnings.items ≡ c.args.warnings.now.items) n in
+    computed_map c.called.result (comes (lib.loaded c.read_module.new.self) (lib.calls c.read_module.new.self)) (comes c.args.bytes.now (lib.calls c.args.lib.now))
+    (λ n h. subst (λ (k : ℕ). comes c.args.bytes.now k n) calls (subst (λ (bytes : List ℕ). comes bytes (lib.calls c.read_module.new.self) n) loaded h))
+    c.called.ensures.comes

@@ -11,6 +11,7 @@ use Rattle.jl_tracker.specs.Plays.{stage}
 use Rattle.jl_cmd.specs.Following.{GivenFollows}
 use Rattle.jl_cmd.specs.Calling.{Course, course, EndedAt}
 use Rattle.jl_cmd.specs.Saying.{GivenLines, GivenLeaves}
+use Rattle.jl_cmd.specs.Coming.{GivenComes}
 use Rattle.jl_cmd.specs.Clears.{GivenClears}
 use Rattle.jl_cmd.specs.declared.ended.Ended.TheVariants.{Done}
 use Rattle.jl_cmd.proofs.ClearEnds.{clears_so, runs_clear}
@@ -241,6 +242,16 @@ returns-in-Call-clause-alone g c =
     let over = λ (name args : List ℕ). leaves (Some (call c.in-Call.module c.in-Call.location name args)) in
     let named = subst (λ (n : List ℕ). over n c.as_str-in-Call.result.now) c.as_str.ensures c.call.ensures.alone in
     subst (λ (s : Settings). leaves (command_of s)) (sym c.in-Call.is) (subst (λ (a : List ℕ). over c.in-Call.func a) c.as_str-in-Call.ensures named)
+
+pub returns-in-Call-clause-comes : goal.returns-in-Call-clause-comes
+returns-in-Call-clause-comes g c =
+    let folder = g.F.Folder in
+    let lib = g.L.Library in
+    let w : Course = course lib.code lib.line (folder.told c.args.folder.now) (folder.token c.args.folder.now) (folder.history c.args.folder.now) (folder.history c.call.new.folder) (folder.faults c.args.folder.now) (folder.faults c.call.new.folder) in
+    let comes = λ (o : Option Command). GivenComes o w (lib.calls c.args.lib.now) (lib.calls c.call.new.lib) (λ status. c.call.result.lines ≡ []) (EndedAt c.call.result.ended) in
+    let over = λ (name args : List ℕ). comes (Some (call c.in-Call.module c.in-Call.location name args)) in
+    let named = subst (λ (n : List ℕ). over n c.as_str-in-Call.result.now) c.as_str.ensures c.call.ensures.comes in
+    subst (λ (s : Settings). comes (command_of s)) (sym c.in-Call.is) (subst (λ (a : List ℕ). over c.in-Call.func a) c.as_str-in-Call.ensures named)
 
 pub returns-in-Hash-clause-lines : goal.returns-in-Hash-clause-lines
 returns-in-Hash-clause-lines g c = no_lines _ _ _ c.ended.ensures.lines

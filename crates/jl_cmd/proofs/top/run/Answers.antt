@@ -5,6 +5,7 @@ use Rattle.jl_cmd.specs.Promises.{IsUnmoved}
 use Rattle.jl_cmd.specs.Calling.{Course, course}
 use Rattle.jl_cmd.specs.Saying.{SaidBy}
 use Rattle.jl_cmd.proofs.CallingLemmas.{given_at}
+use Rattle.jl_cmd.proofs.ComingLemmas.{comes_at}
 use Rattle.jl_cmd.proofs.CacheLemmas.{trusting_given}
 use Rattle.jl_cmd.proofs.EndingLemmas.{answers_at, answers_front, silent_at, folder_fault_rose, read_fault_rose, write_fault_rose, counts_at, completes, text_at}
 use Rattle.jl_cmd.proofs.TrackerEnds.{run_says, runs_tracker}
@@ -46,6 +47,12 @@ returns-clause-text g c = λ n told clear.
 
 pub returns-clause-alone : goal.returns-clause-alone
 returns-clause-alone g c = given_at _ _ _ _ _ _ _ c.command-warned.result.ended c.status.result c.status.ensures c.command-warned.ensures.alone
+
+pub returns-clause-comes : goal.returns-clause-comes
+returns-clause-comes g c =
+    let E = g.E.Sink in
+    comes_at _ _ _ c.command-warned.result.lines _ (E.written c.args.err.now) (E.written c.command-warned.new.err) (E.written c.report.new.err) _ _ _ c.command-warned.result.ended c.status.result c.status.ensures c.command-warned.ensures.err_later
+    (λ told. c.report.ensures.text (c.command-warned.ensures.err_told told)) _ (λ none. ap E.written (c.command-warned.ensures.quiet none)) c.command-warned.ensures.comes
 
 pub returns-clause-idle : goal.returns-clause-idle
 returns-clause-idle g c = λ told stopped.
