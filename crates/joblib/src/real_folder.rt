@@ -1,11 +1,12 @@
 // The folder of the system's files, each open one under a number.
-ghost use Rattle.std.specs.Prelude.{◌≡◌, ◌≤◌, ℕ, length, IfOk, MatchOption, None, OnErr, IsTrue, All};
-ghost use Rattle.jl_text.specs.Paths.{is_part};
+ghost use Rattle.std.specs.Prelude.{◌≡◌, ◌≢◌, ◌⊎◌, ◌≤◌, ℕ, ◌++◌, [], ◌∷◌, true, false, length, IfOk, MatchOption, None, OnOk, OnErr, IsTrue, All};
+ghost use Rattle.jl_text.specs.Paths.{is_part, is_fixed};
 ghost use Rattle.jl_folder.specs.State.{Opens, put_open, closed};
 ghost use Rattle.jl_folder.specs.OpenTable.{opens_of};
 ghost use Rattle.jl_folder.specs.Calls.{AppendsSome, CreatedOpens, OpenedOpens, ReadsWithin};
 ghost use Rattle.jl_text.specs.Counts.{Rose};
 ghost use Rattle.jl_folder.specs.Listing.{ListsParts};
+ghost use Rattle.std.specs.declared.io.ErrorKind.TheVariants.{NotFound, NotADirectory, IsADirectory, DirectoryNotEmpty, AlreadyExists, OutOfMemory};
 
 use jl_folder::{
     Appended, Created, FileNo, Folder, Listed, MadeDir, Name, NameList, OpenFile, Opened, ReadAt,
@@ -56,7 +57,10 @@ fn count_fault(faults: &mut u64)
 }
 
 // The system's word for what is not there.
-fn is_absent(kind: ErrorKind) -> bool {
+fn is_absent(kind: ErrorKind) -> bool
+    ensures yes { result ≡ true → (kind ≡ NotFound) ⊎ (kind ≡ NotADirectory) }
+    ensures no { result ≡ false → (kind ≢ NotFound) × (kind ≢ NotADirectory) }
+{
     matches!(kind, ErrorKind::NotFound | ErrorKind::NotADirectory)
 }
 
@@ -112,24 +116,38 @@ fn close_at(table: &mut Vec<Option<OpenFile>>, number: FileNo)
     }
 }
 
+// Why no folder was made.
+fn not_made(kind: ErrorKind) -> MadeDir
+    ensures exists { kind ≡ AlreadyExists → result ≡ MadeDir.Exists }
+    ensures no_parent { (kind ≡ NotFound) ⊎ (kind ≡ NotADirectory) → result ≡ MadeDir.NoParent }
+    ensures memory { kind ≡ OutOfMemory → result ≡ MadeDir.NoMemory }
+    ensures failed { kind ≢ AlreadyExists → kind ≢ NotFound → kind ≢ NotADirectory → kind ≢ OutOfMemory → result ≡ MadeDir.Failed }
+{
+    match kind {
+        ErrorKind::AlreadyExists => MadeDir::Exists,
+        ErrorKind::NotFound | ErrorKind::NotADirectory => MadeDir::NoParent,
+        ErrorKind::OutOfMemory => MadeDir::NoMemory,
+        _ => MadeDir::Failed,
+    }
+}
+
 fn make_dir<R: Files + AllocGlobal>(rt: &R, path: &Path) -> MadeDir {
     let Ok(text) = path.text(rt.alloc()) else {
         return MadeDir::NoMemory;
     };
     match fs::create_dir(rt, text.as_str()) {
         Ok(()) => MadeDir::Made,
-        Err(e) => match e.kind() {
-            ErrorKind::AlreadyExists => MadeDir::Exists,
-            ErrorKind::NotFound | ErrorKind::NotADirectory => MadeDir::NoParent,
-            ErrorKind::OutOfMemory => MadeDir::NoMemory,
-            _ => MadeDir::Failed,
-        },
+        Err(e) => not_made(e.kind()),
     }
 }
 
 // Why no file was made.
 fn not_created(kind: ErrorKind) -> Created
-    ensures { (opens : Opens) → CreatedOpens result opens opens }
+    ensures opens { (opens : Opens) → CreatedOpens result opens opens }
+    ensures exists { kind ≡ AlreadyExists → result ≡ Created.Exists }
+    ensures no_parent { (kind ≡ NotFound) ⊎ (kind ≡ NotADirectory) → result ≡ Created.NoParent }
+    ensures memory { kind ≡ OutOfMemory → result ≡ Created.NoMemory }
+    ensures failed { kind ≢ AlreadyExists → kind ≢ NotFound → kind ≢ NotADirectory → kind ≢ OutOfMemory → result ≡ Created.Failed }
 {
     match kind {
         ErrorKind::AlreadyExists => Created::Exists,
@@ -217,23 +235,47 @@ fn rename<R: Files + AllocGlobal>(rt: &R, from: &Path, to: &Path) -> Renamed {
     }
 }
 
+// Why no file was removed.
+fn not_removed(kind: ErrorKind) -> Removed
+    ensures no_file { (kind ≡ NotFound) ⊎ ((kind ≡ NotADirectory) ⊎ (kind ≡ IsADirectory)) → result ≡ Removed.NoFile }
+    ensures memory { kind ≡ OutOfMemory → result ≡ Removed.NoMemory }
+    ensures failed { kind ≢ NotFound → kind ≢ NotADirectory → kind ≢ IsADirectory → kind ≢ OutOfMemory → result ≡ Removed.Failed }
+{
+    match kind {
+        ErrorKind::NotFound | ErrorKind::NotADirectory | ErrorKind::IsADirectory => Removed::NoFile,
+        ErrorKind::OutOfMemory => Removed::NoMemory,
+        _ => Removed::Failed,
+    }
+}
+
 fn remove<R: Files + AllocGlobal>(rt: &R, path: &Path) -> Removed {
     let Ok(text) = path.text(rt.alloc()) else {
         return Removed::NoMemory;
     };
     match fs::remove_file(rt, text.as_str()) {
         Ok(()) => Removed::Done,
-        Err(e) => match e.kind() {
-            ErrorKind::NotFound | ErrorKind::NotADirectory | ErrorKind::IsADirectory => {
-                Removed::NoFile
-            }
-            ErrorKind::OutOfMemory => Removed::NoMemory,
-            _ => Removed::Failed,
-        },
+        Err(e) => not_removed(e.kind()),
     }
 }
 
-fn remove_dir<R: Files + AllocGlobal>(rt: &R, path: &Path) -> RemovedDir {
+// Why no folder was removed.
+fn not_removed_dir(kind: ErrorKind) -> RemovedDir
+    ensures no_dir { (kind ≡ NotFound) ⊎ (kind ≡ NotADirectory) → result ≡ RemovedDir.NoDir }
+    ensures not_empty { (kind ≡ DirectoryNotEmpty) ⊎ (kind ≡ AlreadyExists) → result ≡ RemovedDir.NotEmpty }
+    ensures memory { kind ≡ OutOfMemory → result ≡ RemovedDir.NoMemory }
+    ensures failed { kind ≢ NotFound → kind ≢ NotADirectory → kind ≢ DirectoryNotEmpty → kind ≢ AlreadyExists → kind ≢ OutOfMemory → result ≡ RemovedDir.Failed }
+{
+    match kind {
+        ErrorKind::NotFound | ErrorKind::NotADirectory => RemovedDir::NoDir,
+        ErrorKind::DirectoryNotEmpty | ErrorKind::AlreadyExists => RemovedDir::NotEmpty,
+        ErrorKind::OutOfMemory => RemovedDir::NoMemory,
+        _ => RemovedDir::Failed,
+    }
+}
+
+fn remove_dir<R: Files + AllocGlobal>(rt: &R, path: &Path) -> RemovedDir
+    ensures fixed { is_fixed path.now ≡ true → result ≡ RemovedDir.NotEmpty }
+{
     if path.is_fixed() {
         return RemovedDir::NotEmpty;
     }
@@ -242,12 +284,7 @@ fn remove_dir<R: Files + AllocGlobal>(rt: &R, path: &Path) -> RemovedDir {
     };
     match fs::remove_dir(rt, text.as_str()) {
         Ok(()) => RemovedDir::Done,
-        Err(e) => match e.kind() {
-            ErrorKind::NotFound | ErrorKind::NotADirectory => RemovedDir::NoDir,
-            ErrorKind::DirectoryNotEmpty | ErrorKind::AlreadyExists => RemovedDir::NotEmpty,
-            ErrorKind::OutOfMemory => RemovedDir::NoMemory,
-            _ => RemovedDir::Failed,
-        },
+        Err(e) => not_removed_dir(e.kind()),
     }
 }
 
@@ -265,7 +302,10 @@ fn file_of<R: Files<File = File>>(rt: &R, path: &str) -> io::Result<Option<File>
 
 // Why no file was opened.
 fn not_opened(kind: ErrorKind) -> Opened
-    ensures { (opens : Opens) → OpenedOpens result opens opens }
+    ensures opens { (opens : Opens) → OpenedOpens result opens opens }
+    ensures no_file { (kind ≡ NotFound) ⊎ (kind ≡ NotADirectory) → result ≡ Opened.NoFile }
+    ensures memory { kind ≡ OutOfMemory → result ≡ Opened.NoMemory }
+    ensures failed { kind ≢ NotFound → kind ≢ NotADirectory → kind ≢ OutOfMemory → result ≡ Opened.Failed }
 {
     match kind {
         ErrorKind::NotFound | ErrorKind::NotADirectory => Opened::NoFile,
@@ -311,6 +351,19 @@ fn read_at(file: Option<&File>, at: u64, buf: &mut [u8]) -> ReadAt
     }
 }
 
+// Why a file has no size.
+fn not_sized(kind: ErrorKind) -> SizeOf
+    ensures no_file { (kind ≡ NotFound) ⊎ (kind ≡ NotADirectory) → result ≡ SizeOf.NoFile }
+    ensures memory { kind ≡ OutOfMemory → result ≡ SizeOf.NoMemory }
+    ensures failed { kind ≢ NotFound → kind ≢ NotADirectory → kind ≢ OutOfMemory → result ≡ SizeOf.Failed }
+{
+    match kind {
+        ErrorKind::NotFound | ErrorKind::NotADirectory => SizeOf::NoFile,
+        ErrorKind::OutOfMemory => SizeOf::NoMemory,
+        _ => SizeOf::Failed,
+    }
+}
+
 fn size<R: Files + AllocGlobal>(rt: &R, path: &Path) -> SizeOf {
     let Ok(text) = path.text(rt.alloc()) else {
         return SizeOf::NoMemory;
@@ -318,9 +371,7 @@ fn size<R: Files + AllocGlobal>(rt: &R, path: &Path) -> SizeOf {
     match fs::symlink_metadata(rt, text.as_str()) {
         Ok(metadata) if metadata.is_file() => SizeOf::Size(metadata.len()),
         Ok(_) => SizeOf::NoFile,
-        Err(e) if is_absent(e.kind()) => SizeOf::NoFile,
-        Err(e) if e.kind() == ErrorKind::OutOfMemory => SizeOf::NoMemory,
-        Err(_) => SizeOf::Failed,
+        Err(e) => not_sized(e.kind()),
     }
 }
 
@@ -335,7 +386,8 @@ fn kind_of(kind: io::Result<fs::FileType>) -> io::Result<Option<bool>> {
 
 // A name that can't be a part of a path is an error.
 fn part_of(alloc: Global, name: &str) -> io::Result<Text>
-    ensures { IfOk result (λ part. IsTrue (is_part part)) }
+    ensures part { IfOk result (λ part. IsTrue (is_part part)) }
+    ensures same { IfOk result (λ part. part ≡ name.now) }
 {
     if !is_part(name) {
         return Err(io::Error::from(ErrorKind::InvalidData));
@@ -346,7 +398,8 @@ fn part_of(alloc: Global, name: &str) -> io::Result<Text>
 // Adds a name to the others.
 fn push_name(names: &mut Vec<Name>, part: Text, folder: bool) -> Result<(), AllocError>
     requires { IsTrue (is_part part) }
-    ensures { All (λ n. IsTrue (is_part n.part)) names.old.items → IfOk result (λ _. All (λ n. IsTrue (is_part n.part)) names.new.items) }
+    ensures parts { All (λ n. IsTrue (is_part n.part)) names.old.items → IfOk result (λ _. All (λ n. IsTrue (is_part n.part)) names.new.items) }
+    ensures pushed { OnOk result (names.new.items ≡ names.old.items ++ record { part = part; folder = folder } ∷ []) }
 {
     names.push(Name { part, folder })?;
     Ok(())

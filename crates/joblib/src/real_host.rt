@@ -1,5 +1,6 @@
 // The machine that the program runs on.
-ghost use Rattle.std.specs.Prelude.{◌≡◌, ◌≤◌, ◌^◌, IfSome, []};
+ghost use Rattle.std.specs.Prelude.{◌≡◌, ◌≤◌, ◌^◌, IfSome, MatchResult, min, []};
+ghost use Rattle.std.specs.Int.NonZero.{non_zero_usize_get};
 
 use jl_streams::Host;
 use jl_text::Token;
@@ -28,6 +29,7 @@ pub struct RealHost<R: Clock + Drop> {
 pub fn count_processors(count: io::Result<NonZeroUsize>) -> u32
     ensures least { 1 ≤ result }
     ensures most { result ≤ 1024 }
+    ensures exact { MatchResult count (λ n. result ≡ min (non_zero_usize_get n) 1024) (λ e. result ≡ 1) }
 {
     match count {
         Ok(count) => count.get().min(MOST_PROCESSORS) as u32,

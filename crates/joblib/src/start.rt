@@ -1,6 +1,8 @@
 // From the words and the environment to a run.
-ghost use Rattle.std.specs.Prelude.{◌≡◌, ◌≤◌, IfOk};
+ghost use Rattle.std.specs.Prelude.{◌≡◌, ◌≤◌, ℕ, List, [], ◌∷◌, Some, None, IfOk, map, string_bytes};
+ghost use Rattle.joblib.specs.Tokens.{GivesToken, GivesNone};
 ghost use Rattle.jl_cmd.specs.Promises.{IsSilent, IsStatus};
+ghost use Rattle.joblib.specs.Starts.{fault_status, fault_text};
 
 use crate::real_folder::RealFolder;
 use crate::real_host::{RealHost, moment_of};
@@ -26,7 +28,10 @@ enum StartFault {
 
 impl StartFault {
     // The line on the standard error.
-    fn text(&self) -> &'static str {
+    #[tactic(auto, unfolding(jl_cmd::specs::Texts::error_line))]
+    fn text(&self) -> &'static str
+        ensures { result.now ≡ fault_text self.now }
+    {
         match self {
             StartFault::Usage => "error: usage\n",
             StartFault::Memory => "error: out of memory\n",
@@ -35,7 +40,8 @@ impl StartFault {
 
     // The exit status.
     fn status(&self) -> u8
-        ensures { IsSilent result }
+        ensures silent { IsSilent result }
+        ensures exact { result ≡ fault_status self.now }
     {
         match self {
             StartFault::Usage => 2,
@@ -71,7 +77,11 @@ fn variable_of<R: Env + AllocGlobal>(rt: &R) -> Result<Option<String>, AllocErro
 }
 
 // The token that the first word gives.
-fn first_token<R: AllocGlobal>(rt: &R, words: &[String]) -> Result<Option<Token>, AllocError> {
+fn first_token<R: AllocGlobal>(rt: &R, words: &[String]) -> Result<Option<Token>, AllocError>
+    ensures given { (w : List ℕ) (rest : List (List ℕ)) (t : List ℕ) → map string_bytes words.now ≡ w ∷ rest → GivesToken w t → IfOk result (λ token. token ≡ Some t) }
+    ensures none { (w : List ℕ) (rest : List (List ℕ)) → map string_bytes words.now ≡ w ∷ rest → GivesNone w → IfOk result (λ token. token ≡ None) }
+    ensures nothing { map string_bytes words.now ≡ [] → IfOk result (λ token. token ≡ None) }
+{
     match words.first() {
         Some(word) => given_token(rt.alloc(), word.as_str()),
         None => Ok(None),
