@@ -6,6 +6,7 @@ pub mod Looks
 pub mod MemoryLemmas
 pub mod Opens
 pub mod ReadingLemmas
+pub mod ScriptLemmas
 pub mod StateKept
 pub mod TableLemmas
 pub mod Traces

@@ -1,6 +1,6 @@
 -- What a folder in memory tells, step by step.
-use Rattle.std.proofs.Common.{◌≡◌, ◌≢◌, ℕ, suc, ◌<◌, List, [], ◌∷◌, ◌++◌, Bool, true, false, cond, Option, None, Some, IsSome, is_some, nat_eq, option_map, length, take, drop, All, ◌⊎◌, inl, inr, sym, ◌∙◌, ap, subst, refl, append_assoc}
-use Rattle.std.proofs.lemmas.List.Elements.{All-append, All-take, All-drop}
+use Rattle.std.proofs.Common.{◌≡◌, ◌≢◌, ℕ, suc, ◌<◌, List, [], ◌∷◌, ◌++◌, Bool, true, false, cond, Option, None, Some, IsSome, is_some, nat_eq, option_map, length, take, drop, All, Contains, ◌⊎◌, inl, inr, sym, ◌∙◌, ap, subst, refl, append_assoc, arith}
+use Rattle.std.proofs.lemmas.List.Elements.{All-append, All-take, All-drop, Contains-append_cases, Contains-append_left, Contains-append_right}
 use Rattle.std.proofs.lemmas.List.{append-nil}
 use Rattle.std.proofs.Math.Seq.{drop-append_seam}
 use Rattle.std.specs.List.{remove}
@@ -23,6 +23,7 @@ use Rattle.jl_folder.specs.Disk.{disk_state, IsSound, LetMove, LetMoves}
 use Rattle.jl_folder.specs.OpenTable.{opens_of}
 use Rattle.jl_folder.specs.Memory.{mem_state, mem_history, IsTold, Interlude, Tears}
 use Rattle.jl_folder.specs.Calls.{Call, Waits, own_event}
+use Rattle.jl_folder.specs.Scripts.{IsScripted}
 use Rattle.jl_folder.proofs.Looks.{place_at-after, node_at-after}
 use Rattle.jl_folder.proofs.Traces.{run-append, IsTrace-append}
 
@@ -71,13 +72,18 @@ told_on m m' es told sound start trace opens foreign = record {
   foreign = foreign;
 }
 
-pub interlude_none : (m m' : MemFolder) → m'.disk.start ≡ m.disk.start → m'.disk.trace.items ≡ m.disk.trace.items → Interlude m m'
-interlude_none m m' start trace = record { others = []; foreign = tt; trace = trace ∙ sym (append-nil m.disk.trace.items); lawful = tt; start = start }
+-- an empty list holds nothing
+pub nothing_held : {X : Type 0} (x : X) → Contains {X = X} [] x → ⊥
+nothing_held x held = let lt = held.1 in omega arith
 
-pub interlude_on : (a b c : MemFolder) (es : Trace) → Interlude a b → IsForeign a.token es → IsTrace (mem_state b) es → c.disk.start ≡ b.disk.start → c.disk.trace.items ≡ b.disk.trace.items ++ es → Interlude a c
-interlude_on a b c es i foreign lawful start trace = record {
+pub interlude_none : (m m' : MemFolder) → m'.disk.start ≡ m.disk.start → m'.disk.trace.items ≡ m.disk.trace.items → Interlude m m'
+interlude_none m m' start trace = record { others = []; foreign = tt; scripted = λ e held. absurd (nothing_held e held); trace = trace ∙ sym (append-nil m.disk.trace.items); lawful = tt; start = start }
+
+pub interlude_on : (a b c : MemFolder) (es : Trace) → Interlude a b → IsForeign a.token es → ((e : Event) → Contains es e → IsScripted a e) → IsTrace (mem_state b) es → c.disk.start ≡ b.disk.start → c.disk.trace.items ≡ b.disk.trace.items ++ es → Interlude a c
+interlude_on a b c es i foreign scripted lawful start trace = record {
   others = i.others ++ es;
   foreign = IsForeign-append a.token i.others es i.foreign foreign;
+  scripted = λ e held. elim (Contains-append_cases i.others es e held) [ inl old ↦ i.scripted e old | inr new ↦ scripted e new ];
   trace = trace ∙ ap (λ tr. tr ++ es) i.trace ∙ append_assoc a.disk.trace.items i.others es;
   lawful = IsTrace-append (mem_state a) i.others es i.lawful (subst (λ s. IsTrace s es) (state_on a.disk.start b.disk.start a.disk.trace.items b.disk.trace.items i.others i.start i.trace) lawful);
   start = start ∙ i.start;
@@ -89,7 +95,7 @@ IsForeign-split me (e ∷ es) fs a = let rest = IsForeign-split me es fs a.1 in 
 
 -- none were made yet
 pub let_none : (d : Disk) → LetMoves d d []
-let_none d = record { made = []; trace = sym (append-nil d.trace.items); lawful = tt; foreign = λ t f. tt }
+let_none d = record { made = []; trace = sym (append-nil d.trace.items); lawful = tt; foreign = λ t f. tt; among = λ e held. held }
 
 -- one more move, which was made or not
 pub let_more : (a b c : Disk) (moves : Trace) (e : Event) → LetMoves a b moves → b.start ≡ a.start → LetMove b c e → LetMoves a c (moves ++ e ∷ [])
@@ -98,12 +104,14 @@ let_more a b c moves e l start (inl one) = record {
   trace = one.1 ∙ ap (λ tr. tr ++ e ∷ []) l.trace ∙ append_assoc a.trace.items l.made (e ∷ []);
   lawful = IsTrace-append (disk_state a) l.made (e ∷ []) l.lawful (subst (λ s. IsTrace s (e ∷ [])) (state_on a.start b.start a.trace.items b.trace.items l.made start l.trace) (one.0, tt));
   foreign = λ t f. let parts = IsForeign-split t moves (e ∷ []) f in IsForeign-append t l.made (e ∷ []) (l.foreign t parts.0) parts.1;
+  among = λ x held. elim (Contains-append_cases l.made (e ∷ []) x held) [ inl old ↦ Contains-append_left moves (e ∷ []) x (l.among x old) | inr new ↦ Contains-append_right moves (e ∷ []) x new ];
 }
 let_more a b c moves e l start (inr same) = record {
   made = l.made;
   trace = same ∙ l.trace;
   lawful = l.lawful;
   foreign = λ t f. l.foreign t (IsForeign-split t moves (e ∷ []) f).0;
+  among = λ x held. Contains-append_left moves (e ∷ []) x (l.among x held);
 }
 
 pub All-remove : {X : Type 0} (P : X → Type 0) (i : ℕ) (xs : List X) → All P xs → All P (remove xs i)

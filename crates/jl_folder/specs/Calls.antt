@@ -129,15 +129,6 @@ AppendsBytes number bytes opens (appended.Wrote k) s own = AppendsPart number by
 AppendsBytes number bytes opens appended.Failed s own = MaybeAppends number bytes opens own
 AppendsBytes number bytes opens appended.NoMemory s own = MaybeAppends number bytes opens own
 
--- the piece is a first part of the bytes, for the node of this number
-pub record IsTorn (opens : Opens) (number : ℕ) (bytes : List ℕ) (node : ℕ) (piece : List ℕ) : Type 0 where
-  pub file : OpenFile
-  pub count : ℕ
-  pub was_open : opens number ≡ Some file
-  pub node_is : node ≡ file.node
-  pub within : count ≤ length bytes
-  pub piece_is : piece ≡ take count bytes
-
 -- some of the bytes, and all of none; told by every folder
 abbrev pub AppendsSome : ℕ → Appended → Type 0
 AppendsSome n (appended.Wrote k) = (k ≤ n) × (0 < n → 0 < k)

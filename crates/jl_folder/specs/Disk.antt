@@ -1,5 +1,5 @@
 -- A folder in memory: what its data stands for.
-use Rattle.std.specs.Prelude.{◌≡◌, ℕ, ◌⊎◌, List, ◌++◌, [], ◌∷◌}
+use Rattle.std.specs.Prelude.{◌≡◌, ℕ, ◌⊎◌, List, ◌++◌, [], ◌∷◌, Contains}
 use Rattle.jl_folder.specs.declared.disk.Disk.{Disk}
 use Rattle.jl_folder.specs.State.{State, Event, Trace, run, IsTrace, IsForeign, IsState, Allowed}
 use Rattle.jl_folder.specs.Tables.{Agrees, state_of}
@@ -24,3 +24,4 @@ pub record LetMoves (old new : Disk) (moves : Trace) : Type 0 where
   pub trace : new.trace.items ≡ old.trace.items ++ made
   pub lawful : IsTrace (disk_state old) made
   pub foreign : (t : List ℕ) → IsForeign t moves → IsForeign t made
+  pub among : (e : Event) → Contains made e → Contains moves e

@@ -7,6 +7,7 @@ pub mod Memory
 pub mod OpenTable
 pub mod Reading
 pub mod Same
+pub mod Scripts
 pub mod State
 pub mod Tables
 pub mod Trees

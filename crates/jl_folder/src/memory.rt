@@ -1,12 +1,14 @@
 // A folder in memory, in which others move between the calls.
-ghost use Rattle.std.specs.Prelude.{◌≡◌, ◌≢◌, ◌++◌, ◌-◌, ◌≤◌, ◌<◌, [], ◌∷◌, true, false, List, ℕ, length, take, drop, OnOk, OnErr, IfSome, IfOk, None, All};
+ghost use Rattle.std.specs.Prelude.{◌≡◌, ◌≢◌, ◌++◌, ◌-◌, ◌≤◌, ◌<◌, [], ◌∷◌, true, false, not, List, ℕ, length, take, drop, min, nat_eq, OnOk, OnErr, IfSome, IfOk, None, All};
+ghost use Rattle.std.specs.List.{filter, flat_map, position};
 ghost use Rattle.std.specs.Option.{option_copied};
 ghost use Rattle.jl_folder.specs.State.{Allowed, IsForeign, put_open, closed, IsState, bytes_at, is_folder};
 ghost use Rattle.jl_folder.specs.OpenTable.{opens_of};
 ghost use Rattle.jl_folder.specs.State.{own_moves};
-ghost use Rattle.jl_folder.specs.Calls.{AppendsBytes, AppendsSome, IsTorn};
+ghost use Rattle.jl_folder.specs.Calls.{AppendsBytes, AppendsSome, IsMade};
 ghost use Rattle.jl_text.specs.Counts.{Rose};
 ghost use Rattle.jl_folder.specs.Tables.{found_node, state_of};
+ghost use Rattle.jl_folder.specs.Scripts.{named_by, named_in, is_taken, IsLeastFree};
 
 use crate::children::children;
 use crate::disk::Disk;
@@ -47,29 +49,45 @@ pub struct MemFolder {
 
 // The place of the first moves that come before this call.
 fn next_others(others: &[OtherMoves], call: u64) -> Option<usize>
-    ensures { IfSome result (λ i. i < length others.now) }
+    ensures first { result ≡ position (λ o. nat_eq o.0 call) others.now }
+    ensures within { IfSome result (λ i. i < length others.now) }
 {
-    for i in 0..others.len() {
-        if others[i].0 == call {
-            return Some(i);
-        }
-    }
-    None
+    others.iter().position(|group| group.0 == call)
 }
 
-// The numbers that moves name.
-fn add_named(named: &mut Vec<u64>, moves: &[(Token, Move)]) -> Result<(), AllocError> {
-    for entry in moves {
-        match &entry.1 {
-            Move::Create(_, node) => named.push(*node)?,
-            Move::Append(node, _) => named.push(*node)?,
-            _ => {}
+// The number that a move names, put behind others.
+fn add_number(named: &mut Vec<u64>, change: &Move) -> Result<(), AllocError>
+    ensures { OnOk result (named.new.items ≡ named.old.items ++ named_by change.now) }
+{
+    match change {
+        Move::MakeDir(_) => Ok(()),
+        Move::Create(_, node) => {
+            named.push(*node)?;
+            Ok(())
         }
+        Move::Append(node, _) => {
+            named.push(*node)?;
+            Ok(())
+        }
+        Move::Rename(_, _) => Ok(()),
+        Move::Remove(_) => Ok(()),
+        Move::RemoveDir(_) => Ok(()),
+    }
+}
+
+// The numbers that moves name, put behind others.
+fn add_named(named: &mut Vec<u64>, moves: &[(Token, Move)]) -> Result<(), AllocError>
+    ensures { OnOk result (named.new.items ≡ named.old.items ++ named_in moves.now) }
+{
+    for entry in moves {
+        add_number(named, &entry.1)?;
     }
     Ok(())
 }
 
-fn numbers_named(alloc: Global, others: &[OtherMoves]) -> Result<Vec<u64>, AllocError> {
+fn numbers_named(alloc: Global, others: &[OtherMoves]) -> Result<Vec<u64>, AllocError>
+    ensures { IfOk result (λ v. v.items ≡ flat_map (λ o. named_in o.1.items) others.now) }
+{
     let mut named = Vec::new(alloc);
     for group in others {
         add_named(&mut named, group.1.as_slice())?;
@@ -77,15 +95,24 @@ fn numbers_named(alloc: Global, others: &[OtherMoves]) -> Result<Vec<u64>, Alloc
     Ok(named)
 }
 
+fn has_number(nodes: &[NodeEntry], named: &[u64], number: u64) -> bool
+    ensures exact { result ≡ is_taken nodes.now named.now number }
+    ensures free { result ≡ false → found_node nodes.now number ≡ None }
+{
+    match node_of(nodes, number) {
+        Some(_) => true,
+        None => named.contains(&number),
+    }
+}
+
 // The least number that no node has and that others don't name.
 fn fresh_number(nodes: &[NodeEntry], named: &[u64]) -> Option<u64>
-    ensures { IfSome result (λ n. found_node nodes.now n ≡ None) }
+    ensures free { IfSome result (λ n. found_node nodes.now n ≡ None) }
+    ensures least { IfSome result (λ n. IsLeastFree nodes.now named.now n) }
 {
     for n in 0..u64::MAX {
-        if node_of(nodes, n).is_none() {
-            if !named.contains(&n) {
-                return Some(n);
-            }
+        if !has_number(nodes, named, n) {
+            return Some(n);
         }
     }
     None
@@ -155,6 +182,7 @@ fn copy_out(bytes: &[u8], at: usize, buf: &mut [u8]) -> usize
     ensures copied { buf.new ≡ take result (drop at bytes.now) ++ drop result buf.old }
     ensures room { result ≤ length buf.old }
     ensures within { result ≤ length bytes.now - at }
+    ensures whole { result ≡ min (length buf.old) (length bytes.now - at) }
     ensures end { 0 < length buf.old → result ≡ 0 → length bytes.now ≤ at }
 {
     if at >= bytes.len() {
@@ -168,6 +196,7 @@ fn copy_out(bytes: &[u8], at: usize, buf: &mut [u8]) -> usize
 
 impl MemFolder {
     ghost use Rattle.jl_folder.specs.Memory.{mem_state, mem_history, IsTold, Interlude, Tears};
+    ghost use Rattle.jl_folder.specs.Scripts.{PlaysOn, SameScript, FollowsScript, IsIdle, is_failing, is_cut, fails, torn_of, CutsAppend};
 
     /// A folder that begins as the tree. The calls in `failing` fail, and make no move; `close` closes all the same.
     pub fn new(
@@ -185,6 +214,8 @@ impl MemFolder {
         ensures token { IfOk result (λ m. m.token ≡ token) }
         ensures opens { IfOk result (λ m. m.opens.items ≡ []) }
         ensures faults { IfOk result (λ m. m.faults ≡ 0) }
+        ensures named { IfOk result (λ m. m.named.items ≡ flat_map (λ o. named_in o.1.items) others.items) }
+        ensures script { IfOk result (λ m. (m.others ≡ others) × (m.failing ≡ failing) × (m.stop ≡ stop) × (m.calls ≡ 0)) }
     {
         let named = numbers_named(alloc, others.as_slice())?;
         let disk = Disk::new(alloc, start)?;
@@ -216,6 +247,8 @@ impl MemFolder {
         ensures token { IfOk result (λ m. m.token ≡ token) }
         ensures opens { IfOk result (λ m. m.opens.items ≡ []) }
         ensures faults { IfOk result (λ m. m.faults ≡ 0) }
+        ensures named { IfOk result (λ m. m.named.items ≡ flat_map (λ o. named_in o.1.items) others.items) }
+        ensures script { IfOk result (λ m. (m.others ≡ others) × (m.failing ≡ failing) × (m.stop ≡ stop) × (m.calls ≡ 0)) }
     {
         let alloc = self.alloc;
         let disk = self.disk;
@@ -269,15 +302,21 @@ impl MemFolder {
         self.faults
     }
 
-    // The moves of others that come before this call.
-    fn let_others_move(&mut self, call: u64)
+    // The moves of others that come before the next call.
+    fn let_others_move(&mut self)
         ensures told { IsTold self.old → IsTold self.new }
         ensures moved { IsTold self.old → Interlude self.old self.new }
         ensures token { self.new.token ≡ self.old.token }
         ensures opens { self.new.opens.items ≡ self.old.opens.items }
         ensures faults { self.new.faults ≡ self.old.faults }
+        ensures calls { self.new.calls ≡ self.old.calls }
+        ensures failing { self.new.failing ≡ self.old.failing }
+        ensures stop { self.new.stop ≡ self.old.stop }
+        ensures named { self.new.named ≡ self.old.named }
+        ensures follows { IsTold self.old → FollowsScript self.old self.new.disk.trace.items }
+        ensures others { self.new.others.items ≡ filter (λ o. not (nat_eq o.0 self.old.calls)) self.old.others.items }
     {
-        while let Some(i) = next_others(self.others.as_slice(), call) {
+        while let Some(i) = next_others(self.others.as_slice(), self.calls) {
             let group = self.others.remove(i);
             self.disk.let_moves(group.1);
         }
@@ -291,10 +330,13 @@ impl MemFolder {
         ensures opens { self.new.opens.items ≡ self.old.opens.items }
         ensures later { self.old.faults ≤ self.new.faults }
         ensures failed { result ≡ true → Rose self.old.faults self.new.faults }
+        ensures script { PlaysOn self.old self.new }
+        ensures follows { IsTold self.old → FollowsScript self.old self.new.disk.trace.items }
+        ensures answer { result ≡ is_failing self.old }
     {
+        self.let_others_move();
         let call = self.calls;
         self.calls = call.saturating_add(1);
-        self.let_others_move(call);
         if self.failing.contains(&call) {
             self.faults = self.faults.saturating_add(1);
             return true;
@@ -303,7 +345,9 @@ impl MemFolder {
     }
 
     // Whether the run is cut off before this call.
-    fn is_stopped(&self) -> bool {
+    fn is_stopped(&self) -> bool
+        ensures { result ≡ is_cut self.now }
+    {
         match self.stop {
             Some(stop) => self.moves() >= stop.moves,
             None => false,
@@ -318,6 +362,10 @@ impl MemFolder {
         ensures opens { self.new.opens.items ≡ self.old.opens.items }
         ensures later { self.old.faults ≤ self.new.faults }
         ensures failed { result ≡ true → Rose self.old.faults self.new.faults }
+        ensures script { PlaysOn self.old self.new }
+        ensures follows { IsTold self.old → FollowsScript self.old self.new.disk.trace.items }
+        ensures answer { IsTold self.old → result ≡ fails self.old }
+        ensures idle { IsTold self.old → IsIdle self.old self.new }
     {
         if self.start_call() {
             return true;
@@ -329,27 +377,19 @@ impl MemFolder {
         false
     }
 
-    // What an append still adds at which the run is cut off: nothing, if that is past.
-    fn torn_piece(&self, number: FileNo, bytes: &[u8]) -> Option<(u64, Bytes)>
-        ensures { IfSome result (λ t. IsTorn (opens_of self.now.opens.items) number.0 bytes.now t.0 t.1) }
+    // How many bytes an append still adds at which the run is cut off: none, if that is past.
+    fn torn_count(&self, length: usize) -> Option<usize>
+        ensures exact { result ≡ torn_of self.now length }
+        ensures within { IfSome result (λ k. k ≤ length) }
     {
-        let Some(stop) = self.stop else {
-            return None;
-        };
+        let stop = self.stop?;
         if self.moves() != stop.moves {
             return None;
         }
-        let Some(file) = file_of(self.opens.as_slice(), number) else {
-            return None;
-        };
-        let count = if stop.torn < bytes.len() as u64 {
-            stop.torn as usize
+        if stop.torn < length as u64 {
+            Some(stop.torn as usize)
         } else {
-            bytes.len()
-        };
-        match Vec::from_slice(self.alloc, &bytes[..count]) {
-            Ok(piece) => Some((file.node, Bytes::new(piece))),
-            Err(_) => None,
+            Some(length)
         }
     }
 
@@ -362,12 +402,20 @@ impl MemFolder {
         ensures some { AppendsSome (length bytes.now) result }
         ensures later { self.old.faults ≤ self.new.faults }
         ensures rose { Rose self.old.faults self.new.faults }
+        ensures script { SameScript self.old self.new }
+        ensures cut { IsMade (opens_of self.old.opens.items) number.0 → CutsAppend self.old self.new number.0 bytes.now result (torn_of self.old (length bytes.now)) }
     {
         self.faults = self.faults.saturating_add(1);
-        let Some((node, piece)) = self.torn_piece(number, bytes) else {
+        let Some(count) = self.torn_count(bytes.len()) else {
             return Appended::Failed;
         };
-        match self.make(Move::Append(node, piece)) {
+        let Some(file) = file_of(self.opens.as_slice(), number) else {
+            return Appended::Failed;
+        };
+        let Ok(piece) = Vec::from_slice(self.alloc, &bytes[..count]) else {
+            return Appended::NoMemory;
+        };
+        match self.make(Move::Append(file.node, Bytes::new(piece))) {
             Ok(()) => Appended::Failed,
             Err(_) => Appended::NoMemory,
         }
@@ -383,6 +431,7 @@ impl MemFolder {
         ensures opens { self.new.opens.items ≡ self.old.opens.items }
         ensures token { self.new.token ≡ self.old.token }
         ensures faults { self.new.faults ≡ self.old.faults }
+        ensures script { SameScript self.old self.new }
     {
         let token = self.token.copy()?;
         self.disk.make(token, change)?;
@@ -391,7 +440,12 @@ impl MemFolder {
 }
 
 impl Folder for MemFolder {
+    ghost use Rattle.jl_text.specs.Counts.{Faults};
+    ghost use Rattle.jl_folder.specs.State.{now, since};
+    ghost use Rattle.jl_folder.specs.Listing.{ListsFolder, ListsParts};
+    ghost use Rattle.jl_folder.specs.Calls.{Call, Waits, MakesDir, CreatesFile, RenamesFile, RemovesFile, RemovesFolder, OpensFile, ReadsBytes, ReadsWithin, SizesFile, NoMove, IsOpen, CreatedOpens, OpenedOpens};
     ghost use Rattle.jl_folder.specs.Memory.{mem_history, IsTold, told_history};
+    ghost use Rattle.jl_folder.specs.Scripts.{PlaysOn, FollowsScript, IsIdle, is_failing, is_cut, fails, torn_of, CutsAppend, WritesAll, ReadsAll, TakesLeast};
 
     ghost token = { λ m. m.token };
 
@@ -405,7 +459,17 @@ impl Folder for MemFolder {
 
     ghost lawful = { λ m told. told_history m told };
 
-    fn make_dir(&mut self, path: &Path) -> MadeDir {
+    fn make_dir(&mut self, path: &Path) -> MadeDir
+        ensures call { IsTold self.old → Call self.old.token (mem_history self.old) (mem_history self.new) (MakesDir path.now result) }
+        ensures told { IsTold self.old → IsTold self.new }
+        ensures token { self.new.token ≡ self.old.token }
+        ensures opens { opens_of self.new.opens.items ≡ opens_of self.old.opens.items }
+        ensures faults { Faults self.old.faults self.new.faults (result ≡ MadeDir.Failed) }
+        ensures script { PlaysOn self.old self.new }
+        ensures follows { IsTold self.old → FollowsScript self.old self.new.disk.trace.items }
+        ensures failing { IsTold self.old → fails self.old ≡ true → (result ≡ MadeDir.Failed) × IsIdle self.old self.new }
+        ensures runs { IsTold self.old → fails self.old ≡ false → result ≢ MadeDir.Failed }
+    {
         if self.begin() {
             return MadeDir::Failed;
         }
@@ -424,7 +488,18 @@ impl Folder for MemFolder {
         }
     }
 
-    fn create(&mut self, path: &Path) -> Created {
+    fn create(&mut self, path: &Path) -> Created
+        ensures call { IsTold self.old → Call self.old.token (mem_history self.old) (mem_history self.new) (CreatesFile path.now (opens_of self.new.opens.items) result) }
+        ensures told { IsTold self.old → IsTold self.new }
+        ensures token { self.new.token ≡ self.old.token }
+        ensures opens { CreatedOpens result (opens_of self.old.opens.items) (opens_of self.new.opens.items) }
+        ensures faults { Faults self.old.faults self.new.faults (result ≡ Created.Failed) }
+        ensures script { PlaysOn self.old self.new }
+        ensures follows { IsTold self.old → FollowsScript self.old self.new.disk.trace.items }
+        ensures failing { IsTold self.old → fails self.old ≡ true → (result ≡ Created.Failed) × IsIdle self.old self.new }
+        ensures runs { IsTold self.old → fails self.old ≡ false → result ≢ Created.Failed }
+        ensures least { IsTold self.old → TakesLeast self.new result }
+    {
         if self.begin() {
             return Created::Failed;
         }
@@ -450,7 +525,21 @@ impl Folder for MemFolder {
         }
     }
 
-    fn append(&mut self, number: FileNo, bytes: &[u8]) -> Appended {
+    fn append(&mut self, number: FileNo, bytes: &[u8]) -> Appended
+        requires { IsMade (opens_of self.old.opens.items) number.0 }
+        ensures call { IsTold self.old → Call self.old.token (mem_history self.old) (mem_history self.new) (AppendsBytes number.0 bytes.now (opens_of self.old.opens.items) result) }
+        ensures told { IsTold self.old → IsTold self.new }
+        ensures token { self.new.token ≡ self.old.token }
+        ensures opens { opens_of self.new.opens.items ≡ opens_of self.old.opens.items }
+        ensures some { AppendsSome (length bytes.now) result }
+        ensures faults { Faults self.old.faults self.new.faults (result ≡ Appended.Failed) }
+        ensures script { PlaysOn self.old self.new }
+        ensures follows { IsTold self.old → FollowsScript self.old self.new.disk.trace.items }
+        ensures failing { IsTold self.old → is_failing self.old ≡ true → (result ≡ Appended.Failed) × IsIdle self.old self.new }
+        ensures runs { IsTold self.old → fails self.old ≡ false → result ≢ Appended.Failed }
+        ensures cut { IsTold self.old → is_failing self.old ≡ false → is_cut self.old ≡ true → CutsAppend self.old self.new number.0 bytes.now result (torn_of self.old (length bytes.now)) }
+        ensures whole { WritesAll (length bytes.now) result }
+    {
         if self.start_call() {
             return Appended::Failed;
         }
@@ -470,7 +559,18 @@ impl Folder for MemFolder {
         }
     }
 
-    fn rename(&mut self, from: &Path, to: &Path) -> Renamed {
+    fn rename(&mut self, from: &Path, to: &Path) -> Renamed
+        requires { from.now ≢ to.now }
+        ensures call { IsTold self.old → Call self.old.token (mem_history self.old) (mem_history self.new) (RenamesFile from.now to.now result) }
+        ensures told { IsTold self.old → IsTold self.new }
+        ensures token { self.new.token ≡ self.old.token }
+        ensures opens { opens_of self.new.opens.items ≡ opens_of self.old.opens.items }
+        ensures faults { Faults self.old.faults self.new.faults (result ≡ Renamed.Failed) }
+        ensures script { PlaysOn self.old self.new }
+        ensures follows { IsTold self.old → FollowsScript self.old self.new.disk.trace.items }
+        ensures failing { IsTold self.old → fails self.old ≡ true → (result ≡ Renamed.Failed) × IsIdle self.old self.new }
+        ensures runs { IsTold self.old → fails self.old ≡ false → result ≢ Renamed.Failed }
+    {
         if self.begin() {
             return Renamed::Failed;
         }
@@ -495,7 +595,17 @@ impl Folder for MemFolder {
         }
     }
 
-    fn remove(&mut self, path: &Path) -> Removed {
+    fn remove(&mut self, path: &Path) -> Removed
+        ensures call { IsTold self.old → Call self.old.token (mem_history self.old) (mem_history self.new) (RemovesFile path.now result) }
+        ensures told { IsTold self.old → IsTold self.new }
+        ensures token { self.new.token ≡ self.old.token }
+        ensures opens { opens_of self.new.opens.items ≡ opens_of self.old.opens.items }
+        ensures faults { Faults self.old.faults self.new.faults (result ≡ Removed.Failed) }
+        ensures script { PlaysOn self.old self.new }
+        ensures follows { IsTold self.old → FollowsScript self.old self.new.disk.trace.items }
+        ensures failing { IsTold self.old → fails self.old ≡ true → (result ≡ Removed.Failed) × IsIdle self.old self.new }
+        ensures runs { IsTold self.old → fails self.old ≡ false → result ≢ Removed.Failed }
+    {
         if self.begin() {
             return Removed::Failed;
         }
@@ -511,7 +621,17 @@ impl Folder for MemFolder {
         }
     }
 
-    fn remove_dir(&mut self, path: &Path) -> RemovedDir {
+    fn remove_dir(&mut self, path: &Path) -> RemovedDir
+        ensures call { IsTold self.old → Call self.old.token (mem_history self.old) (mem_history self.new) (RemovesFolder path.now result) }
+        ensures told { IsTold self.old → IsTold self.new }
+        ensures token { self.new.token ≡ self.old.token }
+        ensures opens { opens_of self.new.opens.items ≡ opens_of self.old.opens.items }
+        ensures faults { Faults self.old.faults self.new.faults (result ≡ RemovedDir.Failed) }
+        ensures script { PlaysOn self.old self.new }
+        ensures follows { IsTold self.old → FollowsScript self.old self.new.disk.trace.items }
+        ensures failing { IsTold self.old → fails self.old ≡ true → (result ≡ RemovedDir.Failed) × IsIdle self.old self.new }
+        ensures runs { IsTold self.old → fails self.old ≡ false → result ≢ RemovedDir.Failed }
+    {
         if self.begin() {
             return RemovedDir::Failed;
         }
@@ -533,7 +653,17 @@ impl Folder for MemFolder {
         }
     }
 
-    fn open_file(&mut self, path: &Path) -> Opened {
+    fn open_file(&mut self, path: &Path) -> Opened
+        ensures call { IsTold self.old → Call self.old.token (mem_history self.old) (mem_history self.new) (OpensFile path.now (opens_of self.new.opens.items) result) }
+        ensures told { IsTold self.old → IsTold self.new }
+        ensures token { self.new.token ≡ self.old.token }
+        ensures opens { OpenedOpens result (opens_of self.old.opens.items) (opens_of self.new.opens.items) }
+        ensures faults { Faults self.old.faults self.new.faults (result ≡ Opened.Failed) }
+        ensures script { PlaysOn self.old self.new }
+        ensures follows { IsTold self.old → FollowsScript self.old self.new.disk.trace.items }
+        ensures failing { IsTold self.old → fails self.old ≡ true → (result ≡ Opened.Failed) × IsIdle self.old self.new }
+        ensures runs { IsTold self.old → fails self.old ≡ false → result ≢ Opened.Failed }
+    {
         if self.begin() {
             return Opened::Failed;
         }
@@ -546,34 +676,72 @@ impl Folder for MemFolder {
         }
     }
 
-    fn read_at(&mut self, number: FileNo, at: u64, buf: &mut [u8]) -> ReadAt {
+    fn read_at(&mut self, number: FileNo, at: u64, buf: &mut [u8]) -> ReadAt
+        requires is_open { IsOpen (opens_of self.old.opens.items) number.0 }
+        requires room { 0 < length buf.old }
+        ensures call { IsTold self.old → Call self.old.token (mem_history self.old) (mem_history self.new) (ReadsBytes number.0 at buf.old buf.new (opens_of self.old.opens.items) result) }
+        ensures told { IsTold self.old → IsTold self.new }
+        ensures token { self.new.token ≡ self.old.token }
+        ensures opens { opens_of self.new.opens.items ≡ opens_of self.old.opens.items }
+        ensures within { ReadsWithin (length buf.old) result }
+        ensures faults { Faults self.old.faults self.new.faults (result ≡ ReadAt.Failed) }
+        ensures script { PlaysOn self.old self.new }
+        ensures follows { IsTold self.old → FollowsScript self.old self.new.disk.trace.items }
+        ensures failing { IsTold self.old → fails self.old ≡ true → (result ≡ ReadAt.Failed) × IsIdle self.old self.new }
+        ensures runs { IsTold self.old → fails self.old ≡ false → result ≢ ReadAt.Failed }
+        ensures whole { IsTold self.old → ReadsAll self.new number.0 at (length buf.old) result }
+    {
         if self.begin() {
             return ReadAt::Failed;
         }
-        if let Some(file) = file_of(self.opens.as_slice(), number) {
-            if let Some(node) = node_of(self.disk.nodes.as_slice(), file.node) {
-                return ReadAt::Read(copy_out(node.bytes.as_slice(), at as usize, buf));
-            }
-        }
-        self.faults = self.faults.saturating_add(1);
-        ReadAt::Failed
+        let Some(file) = file_of(self.opens.as_slice(), number) else {
+            self.faults = self.faults.saturating_add(1);
+            return ReadAt::Failed;
+        };
+        let Some(node) = node_of(self.disk.nodes.as_slice(), file.node) else {
+            self.faults = self.faults.saturating_add(1);
+            return ReadAt::Failed;
+        };
+        ReadAt::Read(copy_out(node.bytes.as_slice(), at as usize, buf))
     }
 
-    fn size(&mut self, path: &Path) -> SizeOf {
+    fn size(&mut self, path: &Path) -> SizeOf
+        ensures call { IsTold self.old → Call self.old.token (mem_history self.old) (mem_history self.new) (SizesFile path.now result) }
+        ensures told { IsTold self.old → IsTold self.new }
+        ensures token { self.new.token ≡ self.old.token }
+        ensures opens { opens_of self.new.opens.items ≡ opens_of self.old.opens.items }
+        ensures faults { Faults self.old.faults self.new.faults (result ≡ SizeOf.Failed) }
+        ensures script { PlaysOn self.old self.new }
+        ensures follows { IsTold self.old → FollowsScript self.old self.new.disk.trace.items }
+        ensures failing { IsTold self.old → fails self.old ≡ true → (result ≡ SizeOf.Failed) × IsIdle self.old self.new }
+        ensures runs { IsTold self.old → fails self.old ≡ false → result ≢ SizeOf.Failed }
+    {
         if self.begin() {
             return SizeOf::Failed;
         }
         let Some(number) = self.disk.file_at(path.parts()) else {
             return SizeOf::NoFile;
         };
-        if let Some(node) = node_of(self.disk.nodes.as_slice(), number) {
-            return SizeOf::Size(node.bytes.as_slice().len() as u64);
-        }
-        self.faults = self.faults.saturating_add(1);
-        SizeOf::Failed
+        let Some(node) = node_of(self.disk.nodes.as_slice(), number) else {
+            self.faults = self.faults.saturating_add(1);
+            return SizeOf::Failed;
+        };
+        SizeOf::Size(node.bytes.as_slice().len() as u64)
     }
 
-    fn list(&mut self, path: &Path) -> Listed {
+    fn list(&mut self, path: &Path) -> Listed
+        ensures waits { IsTold self.old → Waits self.old.token (mem_history self.old) (mem_history self.new) }
+        ensures names { IsTold self.old → ListsFolder path.now result (now (mem_history self.old)) (since (mem_history self.old) (mem_history self.new)) }
+        ensures parts { ListsParts result }
+        ensures told { IsTold self.old → IsTold self.new }
+        ensures token { self.new.token ≡ self.old.token }
+        ensures opens { opens_of self.new.opens.items ≡ opens_of self.old.opens.items }
+        ensures faults { Faults self.old.faults self.new.faults (result ≡ Listed.Failed) }
+        ensures script { PlaysOn self.old self.new }
+        ensures follows { IsTold self.old → FollowsScript self.old self.new.disk.trace.items }
+        ensures failing { IsTold self.old → fails self.old ≡ true → (result ≡ Listed.Failed) × IsIdle self.old self.new }
+        ensures runs { IsTold self.old → fails self.old ≡ false → result ≢ Listed.Failed }
+    {
         if self.begin() {
             return Listed::Failed;
         }
@@ -586,7 +754,15 @@ impl Folder for MemFolder {
         }
     }
 
-    fn close(&mut self, number: FileNo) {
+    fn close(&mut self, number: FileNo)
+        ensures call { IsTold self.old → Call self.old.token (mem_history self.old) (mem_history self.new) (NoMove) }
+        ensures told { IsTold self.old → IsTold self.new }
+        ensures token { self.new.token ≡ self.old.token }
+        ensures opens { opens_of self.new.opens.items ≡ closed (opens_of self.old.opens.items) number.0 }
+        ensures faults { Faults self.old.faults self.new.faults (⊥) }
+        ensures script { PlaysOn self.old self.new }
+        ensures follows { IsTold self.old → FollowsScript self.old self.new.disk.trace.items }
+    {
         let _fails = self.begin();
         close_at(&mut self.opens, number);
     }

@@ -1,6 +1,7 @@
 -- What contracts see of the forms in memory, and what their calls do.
-use Rattle.std.specs.Prelude.{◌≡◌, ℕ, ◌+◌, ◌-◌, ◌^◌, List, ◌++◌, Bool, cond, min, length, take, drop, nat_eq}
+use Rattle.std.specs.Prelude.{◌≡◌, ℕ, ◌-◌, List, ◌++◌, Bool, cond, min, length, take, drop, nat_eq}
 use Rattle.std.specs.List.{list_any}
+use Rattle.jl_text.specs.Counts.{counted}
 use Rattle.jl_streams.specs.declared.source.Got.{Got}
 use Rattle.jl_streams.specs.declared.source.Got.TheVariants as got
 use Rattle.jl_streams.specs.declared.sink.Put.{Put}
@@ -11,10 +12,6 @@ pub record CallsView : Type 0 where
   pub failing : List ℕ
   pub made : ℕ
   pub faults : ℕ
-
--- one more, up to the last value
-abbrev pub counted : ℕ → ℕ
-counted n = min (n + 1) (2 ^ 64 - 1)
 
 -- whether the next call is to fail
 abbrev pub fails : CallsView → Bool

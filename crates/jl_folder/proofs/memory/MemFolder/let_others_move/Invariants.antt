@@ -1,4 +1,5 @@
-use Rattle.std.proofs.Common.{◌≡◌, vec_len}
+use Rattle.std.proofs.Common.{◌≡◌, vec_len, not, nat_eq, All, Contains}
+use Rattle.std.specs.List.{filter}
 use Rattle.jl_folder.specs.Memory.{IsTold, Interlude}
 use Rattle.jl_folder.proofs.memory.MemFolder.let_others_move.Given as goal
 
@@ -9,6 +10,12 @@ invariant-loop-i l = record {
   token : l.self.token ≡ l.initial.self.token;
   opens : l.self.opens.items ≡ l.initial.self.opens.items;
   faults : l.self.faults ≡ l.initial.self.faults;
+  calls : l.self.calls ≡ l.initial.self.calls;
+  failing : l.self.failing ≡ l.initial.self.failing;
+  stop : l.self.stop ≡ l.initial.self.stop;
+  named : l.self.named ≡ l.initial.self.named;
+  left : All (Contains l.initial.self.others.items) l.self.others.items;
+  others : filter (λ o. not (nat_eq o.0 l.initial.self.calls)) l.self.others.items ≡ filter (λ o. not (nat_eq o.0 l.initial.self.calls)) l.initial.self.others.items;
 }
 
 abbrev pub decreases-loop-i : goal.decreases-loop-i

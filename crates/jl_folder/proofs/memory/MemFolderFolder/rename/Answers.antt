@@ -15,6 +15,7 @@ use Rattle.jl_folder.specs.Tables.{found, found_node}
 use Rattle.jl_folder.specs.Calls.{Call, ReadsPart, OpensNode, Creates, AppendsPart}
 use Rattle.jl_folder.proofs.TableLemmas.{not_some}
 use Rattle.jl_folder.proofs.MemoryLemmas.{call_none, call_made, put_here, told_open, open_put, open_closed, some_is, file_of_place, no_file, no_folder, sound_named, created_node}
+use Rattle.jl_folder.proofs.ScriptLemmas.{follows_none, follows_made}
 use Rattle.jl_folder.proofs.memory.MemFolderFolder.rename.Goals as goal
 
 pub returns-then-not-is_file-clause-call : goal.returns-then-not-is_file-clause-call
@@ -86,3 +87,9 @@ returns-in-Err-clause-call c = λ t.
     let told = c.begin.ensures.told t in
     let i = c.begin.ensures.moved t in
     call_none a b c.make.new.self _ i c.make.ensures.start c.in-Err.ensures.kept (inl refl)
+
+pub returns-in-Ok-make-clause-follows : goal.returns-in-Ok-make-clause-follows
+returns-in-Ok-make-clause-follows c = λ t. follows_made c.args.self.now c.begin.new.self c.make.new.self.disk.trace.items _ (c.begin.ensures.moved t) c.begin.ensures.token c.in-Ok-make.ensures.made
+
+pub returns-in-Err-clause-follows : goal.returns-in-Err-clause-follows
+returns-in-Err-clause-follows c = λ t. follows_none c.args.self.now c.begin.new.self _ (c.begin.ensures.moved t) c.in-Err.ensures.kept
