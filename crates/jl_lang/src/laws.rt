@@ -4,7 +4,10 @@ ghost use Rattle.jl_syntax.specs.Trees.{Expression, each, filtered};
 ghost use Rattle.jl_operations.specs.Steps.{done};
 ghost use Rattle.jl_operations.specs.Operations.{items_length};
 ghost use Rattle.jl_operations.specs.Lists.{source_of, LetsThrough};
-ghost use Rattle.jl_lang.specs.Meaning.{value_of};
+ghost use Rattle.jl_value.specs.Key.{args_tree};
+ghost use Rattle.jl_value.specs.Proper.{IsProper};
+ghost use Rattle.jl_value.specs.Library.{IsWithin};
+ghost use Rattle.jl_lang.specs.Meaning.{value_of, answer_of};
 
 /// The count of steps never passes 16,777,216 at a value.
 pub fn the_count_keeps_its_limit()
@@ -22,4 +25,14 @@ pub fn a_list_has_what_its_condition_lets_through()
     ensures { (ps : List (List ℕ × Tree)) (e a c : Expression) (x : List ℕ) (n k m : ℕ) (v : Tree) (us : List Tree) (ts : Items)
         → value_of ps a n ≡ done v k → source_of v ≡ Some us → value_of ps (filtered e x a c) n ≡ done (list ts) m
         → LetsThrough (λ u j. value_of ((x, u) ∷ ps) c j) us (items_length ts) }
+{}
+
+/// A value that a code answers is within the limits.
+pub fn answers_keep_the_limits()
+    ensures { (c : List ℕ) (ps : List (List ℕ × Tree)) → IsProper (args_tree ps) → IsWithin (answer_of c ps) }
+{}
+
+/// The same code answers the same on the same arguments, whatever else there is.
+pub fn evaluation_is_of_code_and_arguments()
+    ensures { (c d : List ℕ) (ps qs : List (List ℕ × Tree)) → c ≡ d → ps ≡ qs → answer_of c ps ≡ answer_of d qs }
 {}

@@ -9,7 +9,7 @@ mod scope;
 pub use lang::Lang;
 pub use laws::{
     a_list_has_a_member_for_each, a_list_has_what_its_condition_lets_through,
-    the_count_keeps_its_limit,
+    answers_keep_the_limits, evaluation_is_of_code_and_arguments, the_count_keeps_its_limit,
 };
 
 #[cfg(test)]
