@@ -29,3 +29,9 @@ variable_or token (Some text) = if is_token text && nat_le (length text) 36 then
 abbrev pub token_of : Option (List ℕ) → Option (List ℕ) → ℕ → List ℕ
 token_of (Some token) variable moment = token
 token_of None variable moment = variable_or (moment_token moment) variable
+
+-- the token that was given, else one of some variable's text, or none, and of some moment
+pub record IsTokenOf (given : Option (List ℕ)) (token : List ℕ) : Type 0 where
+  pub variable : Option (List ℕ)
+  pub moment : ℕ
+  pub chosen : token ≡ token_of given variable moment

@@ -1,11 +1,12 @@
 // The folder of the system's files, each open one under a number.
-ghost use Rattle.std.specs.Prelude.{◌≡◌, ◌≢◌, ◌⊎◌, ◌≤◌, ℕ, ◌++◌, [], ◌∷◌, true, false, length, IfOk, MatchOption, None, OnOk, OnErr, IsTrue, All};
+ghost use Rattle.std.specs.Prelude.{◌≡◌, ◌≢◌, ◌⊎◌, ◌≤◌, ◌<◌, ◌^◌, ℕ, ◌++◌, [], ◌∷◌, true, false, length, IfOk, MatchOption, None, OnOk, OnErr, IsTrue, All};
 ghost use Rattle.jl_text.specs.Paths.{is_part, is_fixed};
 ghost use Rattle.jl_folder.specs.State.{Opens, put_open, closed};
 ghost use Rattle.jl_folder.specs.OpenTable.{opens_of};
 ghost use Rattle.jl_folder.specs.Calls.{AppendsSome, CreatedOpens, OpenedOpens, ReadsWithin};
 ghost use Rattle.jl_text.specs.Counts.{Rose};
 ghost use Rattle.jl_folder.specs.Listing.{ListsParts};
+ghost use Rattle.joblib.specs.Kinds.{TellsKind};
 ghost use Rattle.std.specs.declared.io.ErrorKind.TheVariants.{NotFound, NotADirectory, IsADirectory, DirectoryNotEmpty, AlreadyExists, OutOfMemory};
 
 use jl_folder::{
@@ -182,7 +183,8 @@ fn create<R: Files<File = File> + AllocGlobal>(
 }
 
 fn append(file: Option<&mut File>, bytes: &[u8]) -> Appended
-    ensures { AppendsSome (length bytes.now) result }
+    ensures some { AppendsSome (length bytes.now) result }
+    ensures closed { MatchOption file.entry (result ≡ Appended.Failed) (λ _. Unit {0}) }
 {
     let Some(file) = file else {
         return Appended::Failed;
@@ -200,24 +202,47 @@ fn append(file: Option<&mut File>, bytes: &[u8]) -> Appended
     }
 }
 
-// The system would move a folder too, so `from` is tested first.
+// What an error of any other kind is for a rename.
+fn rename_fault(kind: ErrorKind) -> Renamed
+    ensures memory { kind ≡ OutOfMemory → result ≡ Renamed.NoMemory }
+    ensures failed { kind ≢ OutOfMemory → result ≡ Renamed.Failed }
+{
+    match kind {
+        ErrorKind::OutOfMemory => Renamed::NoMemory,
+        _ => Renamed::Failed,
+    }
+}
+
+// Why no file was renamed, where its own name still stands or doesn't.
+fn not_renamed(kind: ErrorKind, stands: bool) -> Renamed
+    ensures blocked { (kind ≡ IsADirectory) ⊎ (kind ≡ DirectoryNotEmpty) → result ≡ Renamed.Blocked }
+    ensures no_parent { (kind ≡ NotFound) ⊎ (kind ≡ NotADirectory) → stands ≡ true → result ≡ Renamed.NoParent }
+    ensures no_file { (kind ≡ NotFound) ⊎ (kind ≡ NotADirectory) → stands ≡ false → result ≡ Renamed.NoFile }
+    ensures memory { kind ≡ OutOfMemory → result ≡ Renamed.NoMemory }
+    ensures failed { kind ≢ IsADirectory → kind ≢ DirectoryNotEmpty → kind ≢ NotFound → kind ≢ NotADirectory → kind ≢ OutOfMemory → result ≡ Renamed.Failed }
+{
+    match kind {
+        ErrorKind::IsADirectory | ErrorKind::DirectoryNotEmpty => Renamed::Blocked,
+        ErrorKind::NotFound | ErrorKind::NotADirectory => {
+            if stands {
+                Renamed::NoParent
+            } else {
+                Renamed::NoFile
+            }
+        }
+        _ => rename_fault(kind),
+    }
+}
+
+// The system would move a folder too, so `from` is tested first, and again where a name is missing.
 fn rename_text<R: Files>(rt: &R, from: &str, to: &str) -> io::Result<Renamed> {
     if !is_file(rt, from)? {
         return Ok(Renamed::NoFile);
     }
     match fs::rename(rt, from, to) {
         Ok(()) => Ok(Renamed::Done),
-        Err(e) => match e.kind() {
-            ErrorKind::IsADirectory | ErrorKind::DirectoryNotEmpty => Ok(Renamed::Blocked),
-            ErrorKind::NotFound | ErrorKind::NotADirectory => {
-                if is_file(rt, from)? {
-                    Ok(Renamed::NoParent)
-                } else {
-                    Ok(Renamed::NoFile)
-                }
-            }
-            _ => Err(e),
-        },
+        Err(e) if is_absent(e.kind()) => Ok(not_renamed(e.kind(), is_file(rt, from)?)),
+        Err(e) => Ok(not_renamed(e.kind(), true)),
     }
 }
 
@@ -230,8 +255,7 @@ fn rename<R: Files + AllocGlobal>(rt: &R, from: &Path, to: &Path) -> Renamed {
     };
     match rename_text(rt, from.as_str(), to.as_str()) {
         Ok(answer) => answer,
-        Err(e) if e.kind() == ErrorKind::OutOfMemory => Renamed::NoMemory,
-        Err(_) => Renamed::Failed,
+        Err(e) => rename_fault(e.kind()),
     }
 }
 
@@ -337,7 +361,9 @@ fn open_file<R: Files<File = File> + AllocGlobal>(
 
 // The system takes no offset from 2^63 on, where no file has a byte.
 fn read_at(file: Option<&File>, at: u64, buf: &mut [u8]) -> ReadAt
-    ensures { ReadsWithin (length buf.old) result }
+    ensures within { ReadsWithin (length buf.old) result }
+    ensures beyond { 2 ^ 63 ≤ at → result ≡ ReadAt.Read 0 }
+    ensures closed { at < 2 ^ 63 → MatchOption file.entry (result ≡ ReadAt.Failed) (λ _. Unit {0}) }
 {
     if i64::try_from(at).is_err() {
         return ReadAt::Read(0);
@@ -376,7 +402,9 @@ fn size<R: Files + AllocGlobal>(rt: &R, path: &Path) -> SizeOf {
 }
 
 // Whether the entry is a folder: nothing, where it is gone.
-fn kind_of(kind: io::Result<fs::FileType>) -> io::Result<Option<bool>> {
+fn kind_of(kind: io::Result<fs::FileType>) -> io::Result<Option<bool>>
+    ensures { TellsKind kind result }
+{
     match kind {
         Ok(kind) => Ok(Some(kind.is_dir())),
         Err(e) if is_absent(e.kind()) => Ok(None),
@@ -425,6 +453,18 @@ fn names_in<R: Files + AllocGlobal + Copy>(rt: R, path: &str) -> io::Result<Opti
     Ok(Some(names))
 }
 
+// Why nothing was listed.
+fn not_listed(kind: ErrorKind) -> Listed
+    ensures parts { ListsParts result }
+    ensures memory { kind ≡ OutOfMemory → result ≡ Listed.NoMemory }
+    ensures failed { kind ≢ OutOfMemory → result ≡ Listed.Failed }
+{
+    match kind {
+        ErrorKind::OutOfMemory => Listed::NoMemory,
+        _ => Listed::Failed,
+    }
+}
+
 fn list<R: Files + AllocGlobal + Copy>(rt: R, path: &Path) -> Listed
     ensures { ListsParts result }
 {
@@ -434,10 +474,7 @@ fn list<R: Files + AllocGlobal + Copy>(rt: R, path: &Path) -> Listed
     match names_in(rt, text.as_str()) {
         Ok(Some(names)) => Listed::Names(NameList::new(names)),
         Ok(None) => Listed::NoDir,
-        Err(e) => match e.kind() {
-            ErrorKind::OutOfMemory => Listed::NoMemory,
-            _ => Listed::Failed,
-        },
+        Err(e) => not_listed(e.kind()),
     }
 }
 

@@ -1,6 +1,6 @@
 // From the words and the environment to a run.
 ghost use Rattle.std.specs.Prelude.{◌≡◌, ◌≤◌, ℕ, List, [], ◌∷◌, Some, None, IfOk, map, string_bytes};
-ghost use Rattle.joblib.specs.Tokens.{GivesToken, GivesNone};
+ghost use Rattle.joblib.specs.Tokens.{GivesToken, GivesNone, IsTokenOf};
 ghost use Rattle.jl_cmd.specs.Promises.{IsSilent, IsStatus};
 ghost use Rattle.joblib.specs.Starts.{fault_status, fault_text};
 
@@ -89,10 +89,9 @@ fn first_token<R: AllocGlobal>(rt: &R, words: &[String]) -> Result<Option<Token>
 }
 
 // The token of this run.
-fn token_of<R: Env + Clock + AllocGlobal>(
-    rt: &R,
-    given: Option<Token>,
-) -> Result<Token, AllocError> {
+fn token_of<R: Env + Clock + AllocGlobal>(rt: &R, given: Option<Token>) -> Result<Token, AllocError>
+    ensures { IfOk result (λ t. IsTokenOf given t) }
+{
     let variable = variable_of(rt)?;
     let text = match &variable {
         Some(text) => Some(text.as_str()),
