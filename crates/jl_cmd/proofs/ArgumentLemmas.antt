@@ -1,5 +1,5 @@
 -- What the arguments of a text are, by the steps of their reading.
-use Rattle.std.proofs.Common.{◌≡◌, ◌≢◌, ◌∙◌, ℕ, ◌<◌, ◌≤◌, List, [], ◌∷◌, length, Result, Ok, Err, IfOk, IfErr, refl, ap, cond, if◌then◌else◌, nat_lt}
+use Rattle.std.proofs.Common.{◌≡◌, ◌≢◌, ◌∙◌, ℕ, ◌<◌, ◌≤◌, List, [], ◌∷◌, length, Result, Ok, Err, IfOk, IfErr, refl, ap, if◌then◌else◌}
 use Rattle.std.proofs.lemmas.Bool.{lt-ltb, le-ltb}
 use Rattle.jl_value.specs.declared.fault.ValueFault.{ValueFault}
 use Rattle.jl_value.specs.declared.fault.ValueFault.TheVariants as value
@@ -9,7 +9,6 @@ use Rattle.jl_value.specs.Tree.{Tree, members_of, pairs_of, nesting}
 use Rattle.jl_value.specs.Key.{args_tree}
 use Rattle.jl_value.specs.Form.{tree_of}
 use Rattle.jl_value.specs.Walked.{read_bytes}
-use Rattle.jl_cmd.specs.declared.arguments.ArgumentsFault.{ArgumentsFault}
 use Rattle.jl_cmd.specs.declared.arguments.ArgumentsFault.TheVariants.{TooLong, NotTable, Memory}
 use Rattle.jl_cmd.specs.Arguments.{arguments_of, sized_of, table_in, members_in, fault_of}
 

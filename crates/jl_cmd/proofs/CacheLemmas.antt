@@ -1,5 +1,5 @@
 -- What a run rests on and owes, over its cache folder.
-use Rattle.std.proofs.Common.{◌≡◌, ◌≢◌, ◌∙◌, ◌⊎◌, inl, inr, ℕ, List, [], ◌∷◌, ◌++◌, append_assoc, arith, suc, Bool, true, false, ◌&&◌, not, cond, Option, Some, None, IsSome, IsTrue, refl, sym, ap, subst, true≢false}
+use Rattle.std.proofs.Common.{◌≡◌, ◌∙◌, inl, ℕ, List, [], ◌∷◌, ◌++◌, append_assoc, arith, suc, Bool, true, false, cond, Option, Some, None, IsSome, IsTrue, refl, sym, ap, subst}
 use Rattle.std.specs.Prelude.{◌+◌, ◌<◌, length, take}
 use Rattle.std.proofs.Math.ListN.{get_or}
 use Rattle.std.proofs.Math.Seq.{take-suc}
@@ -12,10 +12,10 @@ use Rattle.jl_store.specs.Warnings.{warning_text}
 use Rattle.jl_cmd.specs.Texts.{warning_lines}
 use Rattle.jl_cmd.specs.Calling.{Course}
 use Rattle.jl_cmd.specs.Saying.{GivenLines}
-use Rattle.jl_folder.specs.State.{State, Trace, History, IsTrace, now, since, run}
+use Rattle.jl_folder.specs.State.{Trace, History, IsTrace, now, since}
 use Rattle.jl_folder.specs.Reading.{ReadsNamed}
-use Rattle.jl_claims.specs.Steps.{AllSteps, Throughout, OwnMoves}
-use Rattle.jl_claims.specs.Claims.{Called, GoesOn, Silent}
+use Rattle.jl_claims.specs.Steps.{OwnMoves}
+use Rattle.jl_claims.specs.Claims.{GoesOn, Silent}
 use Rattle.jl_claims.proofs.Since.{since_went, went_none, since_then}
 use Rattle.jl_claims.proofs.Traces.{with_others}
 use Rattle.jl_claims.proofs.Composed.{called_went}
@@ -36,7 +36,7 @@ use Rattle.jl_cmd.proofs.TrackerMoves.{runs_no_lines}
 use Rattle.jl_words.proofs.Targeted.{all_targets}
 use Rattle.jl_cmd.proofs.ClearEnds.{runs_no_clearing}
 use Rattle.jl_cmd.proofs.ReduceEnds.{runs_no_reducing}
-use Rattle.jl_cmd.specs.Caches.{TrustsCache, GivenTrusts, OthersAreLawful, OwnIsLawful, RunsLawfully, HasModule, GivenHasModule}
+use Rattle.jl_cmd.specs.Caches.{TrustsCache, GivenTrusts, OthersAreLawful, OwnIsLawful, RunsLawfully, GivenHasModule}
 
 -- a call's moves are those of its settings' run
 pub runs_call : (answer : Answers) (tells : Type 0) (input token : List ℕ) (file location : PathView) (name args : List ℕ) (old new : History) → Lawfully (root_of location) answer token old new → RunsLawfully (Some (call file location name args)) answer tells input token old new

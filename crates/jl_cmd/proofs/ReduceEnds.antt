@@ -1,5 +1,5 @@
 -- What a run of the command `reduce-size` is.
-use Rattle.std.proofs.Common.{◌≡◌, ◌++◌, ◌⊎◌, inl, inr, ℕ, List, [], Option, None, Some, refl, sym, subst}
+use Rattle.std.proofs.Common.{◌≡◌, inl, inr, ℕ, List, [], Option, None, Some, refl, sym, subst}
 use Rattle.jl_text.specs.Paths.{PathView}
 use Rattle.jl_folder.specs.State.{History, now, since}
 use Rattle.jl_limits.specs.declared.limits.Limits.{Limits}

@@ -1,5 +1,5 @@
 -- How a run of the tracker ends.
-use Rattle.std.proofs.Common.{◌≡◌, ◌≢◌, ◌∙◌, ◌⊎◌, inl, inr, ℕ, ◌+◌, ◌^◌, ◌<◌, ◌≤◌, List, [], ◌∷◌, ◌++◌, length, take, Bool, true, false, ◌||◌, cond, nat_lt, if◌then◌else◌, Option, None, Some, refl, sym, ap, subst, arith, append-nil, length-append, true≢false}
+use Rattle.std.proofs.Common.{◌≡◌, ◌∙◌, ◌⊎◌, inl, inr, ℕ, ◌+◌, ◌^◌, ◌<◌, ◌≤◌, List, [], ◌∷◌, ◌++◌, length, take, Bool, true, false, ◌||◌, cond, if◌then◌else◌, Option, None, Some, refl, sym, ap, subst, arith, append-nil, length-append, true≢false}
 use Rattle.std.proofs.lemmas.List.{append_assoc}
 use Rattle.std.proofs.lemmas.Bool.{lt-ltb, le-ltb}
 use Rattle.std.proofs.Math.Seq.{take-append_seam}
@@ -8,20 +8,19 @@ use Rattle.jl_value.specs.declared.library.ModuleFault.{ModuleFault}
 use Rattle.jl_value.specs.Tree.{Tree}
 use Rattle.jl_value.specs.Library.{Answer}
 use Rattle.jl_folder.specs.State.{History}
-use Rattle.jl_streams.specs.Streams.{WritesPrefix}
 use Rattle.jl_lines.specs.Lines.{is_newline, has_newline, lines_of, put_before}
 use Rattle.jl_tracker.specs.declared.following.Tracked.{Tracked}
 use Rattle.jl_tracker.specs.declared.following.Tracked.TheVariants as tracked
 use Rattle.jl_tracker.specs.TrackerLines.{LineView}
-use Rattle.jl_tracker.specs.Effects.{Effect, AreReadings, IsLineReading}
-use Rattle.jl_tracker.specs.Plays.{Stage, stage, Wrote, Plays, Cut, CutFirst, Stops}
+use Rattle.jl_tracker.specs.Effects.{Effect, AreReadings}
+use Rattle.jl_tracker.specs.Plays.{Stage, stage, Wrote, Plays, CutFirst, Stops}
 use Rattle.jl_tracker.specs.Tracking.{EndsLines, Seen, Tracks, TracksMuch}
 use Rattle.jl_cmd.specs.declared.ended.Ended.{Ended}
-use Rattle.jl_cmd.specs.declared.ended.Ended.TheVariants.{Done, Refused, ReadFault, NoMemory}
+use Rattle.jl_cmd.specs.declared.ended.Ended.TheVariants.{ReadFault, NoMemory}
 use Rattle.jl_cmd.specs.Commands.{Command, call, hash, clear as clears, reduce_size, tracker}
-use Rattle.jl_cmd.specs.Output.{Output, newlines, refuses_input, tracker_output, output_of, AreReading}
+use Rattle.jl_cmd.specs.Output.{newlines, refuses_input, tracker_output, output_of, AreReading}
 use Rattle.jl_cmd.specs.Endings.{Scene, Tells, RunEnds, status_of, last_text}
-use Rattle.jl_cmd.specs.Following.{EndsTracked, Follows, GivenFollows, RunsTracker, GivenTracks}
+use Rattle.jl_cmd.specs.Following.{EndsTracked, Follows, GivenFollows, GivenTracks}
 use Rattle.jl_cmd.specs.Calling.{Course}
 use Rattle.jl_cmd.specs.Saying.{GivenLines, SaidBy}
 use Rattle.jl_cmd.specs.Statuses as status

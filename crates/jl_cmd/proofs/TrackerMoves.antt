@@ -4,13 +4,13 @@ use Rattle.std.proofs.lemmas.List.{append-nil, append_assoc}
 use Rattle.jl_text.specs.Paths.{PathView, path_of}
 use Rattle.jl_folder.specs.declared.listing.Name.{Name}
 use Rattle.jl_folder.specs.declared.moves.Move.{Move}
-use Rattle.jl_folder.specs.declared.moves.Move.TheVariants.{MakeDir, Create, Append, Rename, Remove, RemoveDir}
-use Rattle.jl_folder.specs.State.{State, Trace, History, Allowed, now, since}
+use Rattle.jl_folder.specs.declared.moves.Move.TheVariants.{Remove, RemoveDir}
+use Rattle.jl_folder.specs.State.{State, History}
 use Rattle.jl_folder.specs.Calls.{Call, Waits, Maybe}
-use Rattle.jl_claims.specs.Steps.{StepFact, OwnMoves, Throughout}
+use Rattle.jl_claims.specs.Steps.{StepFact}
 use Rattle.jl_claims.specs.Claims.{Called, Anywhere}
-use Rattle.jl_claims.proofs.Composed.{always_stable, IsOwnTurn, own_still, own_step, own_maybe, turn_called, waits_called, not_called, then_called}
-use Rattle.jl_entry.specs.Names.{IsBelow, IsOnWay, IsOutside, is_rooted, below}
+use Rattle.jl_claims.proofs.Composed.{always_stable, IsOwnTurn, own_still, own_step, turn_called, waits_called, not_called, then_called}
+use Rattle.jl_entry.specs.Names.{IsBelow, IsOnWay, IsOutside, is_rooted}
 use Rattle.jl_laws.specs.Whole.{Answers}
 use Rattle.jl_laws.specs.Proper.{IsProperOutside, IsLawful, RenamesTrue, LawfulThroughout}
 use Rattle.jl_lines.specs.Lines.{lines_of}
@@ -22,8 +22,8 @@ use Rattle.jl_tracker.specs.TrackerLines.{LineView}
 use Rattle.jl_tracker.specs.Counting.{no_counts}
 use Rattle.jl_tracker.specs.Effects.{Effect, reports_bad, reports_unknown, reports_leaked, removes, AreReadings, effects_from, counts_after, end_effects}
 use Rattle.jl_tracker.specs.Removing.{TriesFile, TriesFolder, TriedFile, TriedName, TriedNames, TriedFolder, RemovesFolder, Removal, MayMove, CutFolder, CutRemoval}
-use Rattle.jl_tracker.specs.Plays.{Stage, stage, EffectMoves, EffectCut, Plays, Cut, CutFirst, Stops}
-use Rattle.jl_tracker.specs.Tracking.{Seen, Tracks, TracksAll, TracksFirst, TracksMuch, TracksSome}
+use Rattle.jl_tracker.specs.Plays.{Stage, stage, EffectMoves, EffectCut, Plays, CutFirst, Stops}
+use Rattle.jl_tracker.specs.Tracking.{Seen, Tracks}
 use Rattle.jl_cmd.specs.Commands.{tracker}
 use Rattle.jl_cmd.specs.Caches.{RunsLawfully}
 use Rattle.jl_cmd.specs.Following.{all_effects, TakesResource, TakesFor, TakesForSome, LiesOutside, AreOutside, TakesAsked}

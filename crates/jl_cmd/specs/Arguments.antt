@@ -7,7 +7,7 @@ use Rattle.jl_value.specs.Walked.{read_bytes}
 use Rattle.jl_value.specs.Canonical.{text_of}
 use Rattle.jl_value.specs.Key.{args_tree}
 use Rattle.jl_cmd.specs.declared.arguments.ArgumentsFault.{ArgumentsFault}
-use Rattle.jl_cmd.specs.declared.arguments.ArgumentsFault.TheVariants.{UnknownFunction, TooLong, NotJson, NotWhole, BadArray, TooDeep, NotTable, Memory}
+use Rattle.jl_cmd.specs.declared.arguments.ArgumentsFault.TheVariants.{TooLong, NotJson, NotWhole, BadArray, TooDeep, NotTable, Memory}
 
 abbrev pub fault_of : ValueFault → ArgumentsFault
 fault_of value.NotJson = NotJson

@@ -8,9 +8,8 @@ use Rattle.jl_laws.specs.Whole.{Answers}
 use Rattle.jl_laws.specs.Tidy.{IsSound}
 use Rattle.jl_store.specs.declared.memory.Warning.{Warning}
 use Rattle.jl_words.specs.ModuleNames.{module_name_of}
-use Rattle.jl_cmd.specs.declared.ended.Ended.{Ended}
 use Rattle.jl_cmd.specs.Commands.{Command, call, hash, clear, reduce_size, tracker}
-use Rattle.jl_cmd.specs.Calling.{Course, memory_at, AreOfCall, LeavesRead, EndedAt}
+use Rattle.jl_cmd.specs.Calling.{Course, memory_at, AreOfCall, LeavesRead}
 use Rattle.jl_cmd.specs.Statuses as status
 use Rattle.jl_cmd.specs.Texts.{warning_lines}
 

@@ -1,26 +1,23 @@
 -- A folder that couldn't be removed, by the states of its removal.
-use Rattle.std.proofs.Common.{◌≡◌, ◌≢◌, ℕ, zero, suc, ◌+◌, ◌-◌, ◌^◌, ◌<◌, ◌≤◌, ◌⊎◌, inl, inr, List, [], ◌∷◌, ◌++◌, Bool, true, false, cond, min, Option, Some, None, length, get_or, true≢false, sym, ◌∙◌, ap, subst, refl, arith}
-use Rattle.std.specs.List.{Contains}
+use Rattle.std.proofs.Common.{◌≡◌, ℕ, zero, suc, ◌+◌, ◌-◌, ◌^◌, ◌<◌, ◌≤◌, ◌⊎◌, inl, inr, List, [], ◌∷◌, ◌++◌, Bool, true, false, cond, min, Option, Some, None, length, get_or, true≢false, sym, ◌∙◌, ap, subst, refl, arith}
 use Rattle.std.specs.Option.{option_map_or}
 use Rattle.std.specs.Cmp.Lexicographic.{lists_equiv, nat_list_eq_equiv}
 use Rattle.std.proofs.lemmas.List.{append-nil, append_assoc}
 use Rattle.std.proofs.lemmas.Bool.Decides.{leb_tells}
 use Rattle.jl_text.specs.Paths.{PathView, path_eq}
 use Rattle.jl_folder.specs.State.{State, Trace, Event, History, AtSome, AtEach, place_at, is_file, is_file_place, is_folder, is_folder_place, run, after, now, since}
-use Rattle.jl_folder.specs.Calls.{Call, Waits, Maybe, IsKept, own_event}
+use Rattle.jl_folder.specs.Calls.{IsKept, own_event}
 use Rattle.jl_text.specs.Counts.{Rose}
-use Rattle.jl_folder.specs.Listing.{Stands, ListsNames}
-use Rattle.jl_folder.specs.Looks.{place_after}
 use Rattle.jl_folder.specs.declared.listing.Name.{Name}
 use Rattle.jl_folder.specs.declared.moves.Place.{Place}
 use Rattle.jl_folder.specs.declared.moves.Place.TheVariants.{Folder, File}
 use Rattle.jl_folder.specs.declared.moves.Move.{Move}
-use Rattle.jl_folder.specs.declared.moves.Move.TheVariants.{Remove, RemoveDir}
+use Rattle.jl_folder.specs.declared.moves.Move.TheVariants.{Remove}
 use Rattle.jl_folder.proofs.Looks.{place_at-after}
 use Rattle.jl_folder.proofs.Traces.{run-append}
 use Rattle.jl_folder.proofs.ReadingLemmas.{since-is, now-on}
-use Rattle.jl_tracker.specs.Removing.{TriesFile, TriesFolder, TriedFile, TriedName, TriedNames, TriedFolder, NotListed, RemovesFolder}
-use Rattle.jl_tracker.specs.Causes.{WentAway, StillHolds, HasCause}
+use Rattle.jl_tracker.specs.Removing.{TriesFile, TriesFolder, TriedName, TriedNames, TriedFolder, RemovesFolder}
+use Rattle.jl_tracker.specs.Causes.{WentAway, HasCause}
 
 -- the moves from one history to a later one
 record Steps (a b : History) (es : Trace) : Type 0 where

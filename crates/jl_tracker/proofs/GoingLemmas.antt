@@ -1,17 +1,14 @@
 -- The tracker goes on, line by line.
-use Rattle.std.proofs.Common.{◌≡◌, ℕ, suc, ◌+◌, ◌<◌, ◌≤◌, ◌⊎◌, inl, inr, List, [], ◌∷◌, ◌++◌, Bool, true, false, ◌||◌, cond, Option, Some, None, length, nat_lt, true≢false, sym, ◌∙◌, ap, subst, refl, arith, length-append}
+use Rattle.std.proofs.Common.{◌≡◌, ℕ, suc, ◌+◌, ◌<◌, ◌≤◌, ◌⊎◌, inl, inr, List, [], ◌∷◌, ◌++◌, true, false, ◌||◌, cond, Option, Some, None, length, nat_lt, true≢false, sym, ◌∙◌, ap, subst, refl, arith, length-append}
 use Rattle.std.proofs.lemmas.List.{append-nil, append_assoc}
-use Rattle.jl_lines.specs.declared.reader.NextLine.{NextLine}
-use Rattle.jl_lines.specs.declared.reader.NextLine.TheVariants as next_line
 use Rattle.jl_lines.specs.Lines.{is_newline, has_newline, first_line, behind_line, body_of, put_before, lines_of}
-use Rattle.jl_lines.specs.Steps.{ReaderView, waiting, is_long, Passes, Keeps, IsWhole, Answers, LeftIs, NextStep}
+use Rattle.jl_lines.specs.Steps.{IsWhole}
 use Rattle.jl_lines.proofs.LineLemmas.{behind_line_all}
-use Rattle.jl_lines.proofs.FollowLemmas.{lines_first}
 use Rattle.std.proofs.lemmas.Bool.Decides.{Decides-ltb, leb_tells}
-use Rattle.jl_tracker.specs.TrackerLines.{LineView, registers, unregisters, may_unlink, probes, IsTrackerLine}
-use Rattle.jl_tracker.specs.Counting.{CountsView, no_counts, after_line, answer_of}
-use Rattle.jl_tracker.specs.Effects.{Effect, IsReading, IsLineReading, AreReadings, line_effects, after_read, effects_from, counts_after, end_effects}
-use Rattle.jl_tracker.specs.Tracking.{EndsLines, Seen, Going}
+use Rattle.jl_tracker.specs.TrackerLines.{LineView, IsTrackerLine}
+use Rattle.jl_tracker.specs.Counting.{CountsView}
+use Rattle.jl_tracker.specs.Effects.{IsReading, IsLineReading, AreReadings, line_effects, after_read, effects_from, counts_after}
+use Rattle.jl_tracker.specs.Tracking.{EndsLines, Seen}
 
 -- a line and what stands behind it are the bytes
 pub line_split : (bs : List ℕ) → first_line bs ++ behind_line bs ≡ bs

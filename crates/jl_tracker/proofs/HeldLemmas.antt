@@ -1,10 +1,10 @@
 -- What is counted has paths, and so has what is left.
-use Rattle.std.proofs.Common.{◌≡◌, ℕ, ◌-◌, ◌⊎◌, inl, inr, List, [], ◌∷◌, ◌++◌, Bool, true, false, cond, nat_lt, map, Option, Some, None, ap, subst, refl}
+use Rattle.std.proofs.Common.{ℕ, ◌-◌, List, [], ◌∷◌, ◌++◌, true, false, cond, nat_lt, map, Option, Some, None}
 use Rattle.std.specs.Str.{bytes_eq}
 use Rattle.jl_tracker.specs.declared.line.Kind.{Kind}
 use Rattle.jl_tracker.specs.declared.line.Kind.TheVariants as kind
 use Rattle.jl_tracker.specs.declared.counts.Leaked.{Leaked}
-use Rattle.jl_tracker.specs.TrackerLines.{LineView, registers, unregisters, may_unlink, probes, IsTrackerLine}
+use Rattle.jl_tracker.specs.TrackerLines.{LineView, registers, unregisters, may_unlink, probes}
 use Rattle.jl_tracker.specs.Entries.{Entries, count_of, put, without, registered, released, released_by, more_of}
 use Rattle.jl_tracker.specs.Counting.{CountsView, entries_at, with_entries, after_line, left_of}
 use Rattle.jl_tracker.specs.Effects.{IsReading, after_read}

@@ -1,11 +1,11 @@
 -- Bytes round blanks and colons.
-use Rattle.std.proofs.Common.{◌≡◌, ℕ, suc, ◌⊎◌, inl, inr, ◌+◌, ◌-◌, ◌<◌, ◌≤◌, List, [], ◌∷◌, ◌++◌, Bool, true, false, ◌&&◌, ◌||◌, not, cond, nat_eq, nat_lt, length, take, drop, get_or, sym, ◌∙◌, ap, subst, refl, arith, length-append, length-take, length-drop, drop-cons, add-one, true≢false, Option, None, Some}
-use Rattle.std.proofs.lemmas.List.{append_assoc, append-nil, take_all, take-append-drop}
+use Rattle.std.proofs.Common.{◌≡◌, ℕ, suc, inl, inr, ◌+◌, ◌-◌, ◌<◌, ◌≤◌, List, [], ◌∷◌, ◌++◌, Bool, true, false, ◌&&◌, ◌||◌, not, cond, nat_lt, length, take, drop, get_or, sym, ◌∙◌, ap, refl, arith, drop-cons, add-one, true≢false, Option, None, Some}
+use Rattle.std.proofs.lemmas.List.{take-append-drop}
 use Rattle.std.proofs.lemmas.List.Folds.{list_all-append}
-use Rattle.std.specs.List.{list_any, list_all, prefix_len, position_or_len, position}
+use Rattle.std.specs.List.{list_all, position_or_len, position}
 use Rattle.std.proofs.lemmas.Bool.Decides.{Decides-ltb, Decides-eqb, leb_tells}
 use Rattle.std.proofs.Math.ListN.{drop_of_length-le}
-use Rattle.jl_tracker.specs.Parts.{is_blank, is_colon, has_colon, strip_front, strip_end, before_first, behind_first, before_last, behind_last, CutsFirst, CutsLast}
+use Rattle.jl_tracker.specs.Parts.{is_blank, is_colon, has_colon, strip_end, before_first, behind_first, before_last, behind_last, CutsFirst, CutsLast}
 
 -- the first colon
 ends : (bs : List ℕ) → position_or_len is_colon bs < length bs → (has_colon bs ≡ true) × (before_first bs ≡ take (position_or_len is_colon bs) bs) × (behind_first bs ≡ drop (suc (position_or_len is_colon bs)) bs)

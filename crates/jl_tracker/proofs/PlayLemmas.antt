@@ -1,5 +1,5 @@
 -- Effects that come about, or stop for want of memory.
-use Rattle.std.proofs.Common.{◌≡◌, ℕ, ◌+◌, ◌≤◌, ◌⊎◌, inl, inr, List, [], ◌∷◌, ◌++◌, Bool, true, false, Option, Some, None, true≢false, sym, ◌∙◌, ap, subst, refl, arith}
+use Rattle.std.proofs.Common.{◌≡◌, ℕ, inl, inr, List, [], ◌∷◌, ◌++◌, Bool, true, false, Some, None, true≢false, sym, ◌∙◌, ap, subst, refl, arith}
 use Rattle.std.proofs.lemmas.List.{append-nil, append_assoc}
 use Rattle.std.specs.Bool.{MatchBool}
 use Rattle.jl_folder.specs.State.{History}
@@ -7,12 +7,12 @@ use Rattle.jl_tracker.specs.declared.line.Kind.{Kind}
 use Rattle.jl_tracker.specs.declared.line.Kind.TheVariants as kind
 use Rattle.jl_tracker.specs.declared.table.Step.{Step}
 use Rattle.jl_tracker.specs.declared.table.Step.TheVariants as step
-use Rattle.jl_tracker.specs.TrackerLines.{LineView, registers, unregisters, may_unlink, probes, IsTrackerLine, IsNameOf, Says}
+use Rattle.jl_tracker.specs.TrackerLines.{LineView, registers, unregisters, may_unlink, probes, IsTrackerLine, IsNameOf}
 use Rattle.jl_tracker.specs.Counting.{CountsView, Applies, after_line, answer_of}
-use Rattle.jl_tracker.specs.Removing.{Removal, CutRemoval}
+use Rattle.jl_tracker.specs.Removing.{Removal}
 use Rattle.jl_tracker.specs.Tries.{IsRemovable}
-use Rattle.jl_tracker.specs.Effects.{Effect, removes, removal_text, text_of, effects_of, after_read, line_effects, IsReading}
-use Rattle.jl_tracker.specs.Plays.{Stage, stage, Wrote, EffectMoves, EffectCut, Does, Plays, Cut, CutFirst, Stops}
+use Rattle.jl_tracker.specs.Effects.{Effect, removes, removal_text, text_of, effects_of, line_effects}
+use Rattle.jl_tracker.specs.Plays.{Stage, stage, Wrote, EffectMoves, EffectCut, Plays, CutFirst, Stops}
 use Rattle.jl_tracker.specs.Turns.{IsSaidRemovable, LinePlays, LineStops}
 use Rattle.jl_tracker.proofs.SpelledLemmas.{path_text-read}
 

@@ -1,17 +1,16 @@
 -- The steps of a removal, one after the other.
-use Rattle.std.proofs.Common.{◌≡◌, ℕ, ◌≤◌, ◌⊎◌, inl, inr, List, [], ◌∷◌, ◌++◌, Bool, true, false, take, drop, sym, ◌∙◌, ap, subst, refl, arith}
+use Rattle.std.proofs.Common.{◌≡◌, ℕ, ◌≤◌, inl, inr, List, [], ◌∷◌, ◌++◌, Bool, true, false, sym, ap, subst, refl}
 use Rattle.std.proofs.lemmas.List.{append-nil}
-use Rattle.jl_text.specs.Paths.{PathView, path_of}
-use Rattle.jl_folder.specs.State.{State, History, now, since}
-use Rattle.jl_folder.specs.Calls.{Call, Waits, Maybe}
+use Rattle.jl_text.specs.Paths.{PathView}
+use Rattle.jl_folder.specs.State.{History, now, since}
+use Rattle.jl_folder.specs.Calls.{Waits}
 use Rattle.jl_folder.specs.Listing.{ListsNames}
 use Rattle.jl_folder.specs.declared.listing.Name.{Name}
-use Rattle.jl_folder.specs.declared.moves.Move.TheVariants.{Remove, RemoveDir}
 use Rattle.jl_folder.proofs.ReadingLemmas.{waits_none}
 use Rattle.jl_tracker.specs.declared.removing.Tried.{Tried}
 use Rattle.jl_tracker.specs.declared.removing.Tried.TheVariants as tried
-use Rattle.jl_tracker.specs.Removing.{TriesFile, TriesFolder, TriedFile, TriedName, TriedNames, TriedFolder, RemovesFolder, CutFolder, ListedFolder, Removal, CutRemoval, MayMove}
-use Rattle.jl_tracker.specs.Tries.{FileTry, FolderTry, NameTry, NamesTry, CutNames, TriedAll, CutLast, ListedTry, RemovesTry, RemovalTry}
+use Rattle.jl_tracker.specs.Removing.{TriedName, TriedNames, TriedFolder, CutFolder, ListedFolder}
+use Rattle.jl_tracker.specs.Tries.{FolderTry, NameTry, CutNames, TriedAll, CutLast, ListedTry, RemovesTry}
 
 -- one more name was tried
 pub tried_names_push : (me : List ℕ) (p : PathView) (ns : List Name) (n : Name) (a m b : History) (f h g : ℕ) → TriedNames me p ns a m f h → TriedName n.folder me (p ++ n.part ∷ []) m b h g → TriedNames me p (ns ++ n ∷ []) a b f g

@@ -1,16 +1,13 @@
 -- What the parts of a line say, and that they say one thing alone.
-use Rattle.std.proofs.Common.{◌≡◌, ◌≢◌, ℕ, ◌⊎◌, inl, inr, List, [], ◌∷◌, Bool, true, false, not, nat_eq, cond, length, codes, sym, ◌∙◌, ap, subst, refl, arith, true≢false}
-use Rattle.std.specs.Str.{bytes_eq, IsUtf8}
+use Rattle.std.proofs.Common.{◌≡◌, ◌≢◌, ℕ, ◌⊎◌, inl, inr, List, [], ◌∷◌, true, false, not, nat_eq, length, codes, sym, ◌∙◌, ap, subst, refl, arith, true≢false}
+use Rattle.std.specs.Str.{IsUtf8}
 use Rattle.std.proofs.lemmas.Bool.{not-true}
 use Rattle.std.proofs.lemmas.Bool.Decides.{Decides-eqb, nat_tests}
 use Rattle.std.proofs.lemmas.Grind.{common_steps}
-use Rattle.std.proofs.lemmas.Slice.Eq.{bytes_eq-Decides}
 use Rattle.jl_tracker.specs.declared.line.Kind.{Kind}
 use Rattle.jl_tracker.specs.declared.line.Kind.TheVariants as kind
 use Rattle.jl_tracker.specs.declared.line.Command.{Command}
 use Rattle.jl_tracker.specs.declared.line.Command.TheVariants as command
-use Rattle.jl_tracker.specs.Parts.{body_of, has_colon, behind_first, has_parts, Splits}
-use Rattle.jl_tracker.specs.PathTexts.{IsPathText, is_spelled}
 use Rattle.jl_tracker.specs.TrackerLines.{LineView, registers, unregisters, may_unlink, probes, word_of, IsNameOf, is_named, said_of, command_word, Says, IsTrackerLine}
 use Rattle.jl_tracker.proofs.SpelledLemmas.{is_spelled-sound, is_spelled-complete}
 

@@ -1,12 +1,12 @@
 -- The texts of paths, by what stands between their slashes.
-use Rattle.std.proofs.Common.{◌≡◌, ℕ, ◌⊎◌, inl, inr, ◌+◌, ◌<◌, ◌≤◌, List, [], ◌∷◌, ◌++◌, Bool, true, false, ◌&&◌, ◌||◌, ◌==◌, not, cond, nat_eq, nat_lt, length, sym, ◌∙◌, ap, subst, refl, arith, true≢false, append-nil}
+use Rattle.std.proofs.Common.{◌≡◌, ℕ, inl, inr, ◌+◌, ◌≤◌, List, [], ◌∷◌, ◌++◌, Bool, true, false, ◌&&◌, ◌||◌, ◌==◌, not, cond, nat_eq, nat_lt, length, sym, ◌∙◌, ap, subst, refl, arith, true≢false}
 use Rattle.std.proofs.lemmas.Bool.{and_parts, and_from, or_parts, not-true, le-ltb}
 use Rattle.std.proofs.lemmas.Bool.Decides.{nat_tests, Decides-ltb, Decides-eqb, leb_tells}
 use Rattle.std.proofs.lemmas.Grind.{common_steps}
 use Rattle.std.proofs.lemmas.Slice.Eq.{bytes_eq-Decides}
-use Rattle.std.specs.List.{list_all, list_any, onto_first}
+use Rattle.std.specs.List.{list_all, onto_first}
 use Rattle.std.specs.Str.{bytes_eq}
-use Rattle.jl_text.specs.Paths.{PathView, IsPath, is_path, is_part, is_kept, pieces, path_of, is_bad, begins_at_top, behind_slashes, text_of}
+use Rattle.jl_text.specs.Paths.{PathView, IsPath, is_path, is_part, pieces, path_of, is_bad, behind_slashes, text_of}
 use Rattle.jl_text.proofs.Spelled.{part_facts, pieces_joined, text_of-spelled, path_of-text_of, is_bad-text_of}
 use Rattle.jl_text.proofs.Pieces.{first_is_part}
 use Rattle.jl_tracker.specs.PathTexts.{IsPathText, behind_slash, is_spelled}

@@ -1,9 +1,9 @@
 -- A table's entries, by their texts.
-use Rattle.std.proofs.Common.{◌≡◌, ℕ, suc, ◌⊎◌, inl, inr, ◌+◌, ◌-◌, ◌<◌, List, [], ◌∷◌, ◌++◌, Bool, true, false, not, cond, nat_lt, length, map, String, Global, string_bytes, Option, None, Some, option_map, sym, ◌∙◌, ap, subst, refl, arith}
+use Rattle.std.proofs.Common.{◌≡◌, ℕ, suc, ◌+◌, ◌-◌, ◌<◌, List, [], ◌∷◌, Bool, true, false, not, cond, nat_lt, length, String, Global, string_bytes, Option, None, Some, sym, ◌∙◌, ap, subst, refl, arith}
 use Rattle.std.specs.String.{string_eq}
 use Rattle.std.specs.Str.{bytes_eq}
 use Rattle.std.specs.Map.{lookup, remove_entry, keys_of}
-use Rattle.std.specs.List.{position, position_or_len, prefix_len}
+use Rattle.std.specs.List.{position, position_or_len}
 use Rattle.indexmap.specs.IndexMap.{insert_entry, set_value_at}
 use Rattle.std.proofs.lemmas.Bool.Decides.{Decides-ltb}
 use Rattle.jl_tracker.specs.declared.line.Kind.{Kind}
@@ -11,7 +11,7 @@ use Rattle.jl_tracker.specs.declared.line.Kind.TheVariants as kind
 use Rattle.jl_tracker.specs.declared.table.Step.{Step}
 use Rattle.jl_tracker.specs.declared.table.Step.TheVariants as step
 use Rattle.jl_tracker.specs.Counting.{CountsView, entries_at, with_entries, count_in, Applies}
-use Rattle.jl_tracker.specs.TrackerLines.{LineView, registers, unregisters, may_unlink}
+use Rattle.jl_tracker.specs.TrackerLines.{registers, unregisters, may_unlink}
 use Rattle.jl_tracker.specs.Entries.{Entries, count_of, put, without, released, released_by, release_answer, drop_answer, Registers}
 use Rattle.jl_tracker.specs.Views.{view_entries}
 

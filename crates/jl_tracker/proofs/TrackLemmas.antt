@@ -1,21 +1,20 @@
 -- The tracker's turns: it goes on, or it ends.
-use Rattle.std.proofs.Common.{◌≡◌, ℕ, ◌+◌, ◌-◌, ◌^◌, ◌<◌, ◌≤◌, ◌⊎◌, inl, inr, List, [], ◌∷◌, ◌++◌, Bool, true, false, ◌||◌, cond, Option, Some, None, length, nat_lt, true≢false, sym, ◌∙◌, ap, subst, refl, arith, length-append}
+use Rattle.std.proofs.Common.{◌≡◌, ℕ, ◌+◌, ◌-◌, ◌^◌, ◌<◌, ◌≤◌, inl, inr, List, [], ◌∷◌, ◌++◌, true, false, ◌||◌, Option, None, length, nat_lt, sym, ◌∙◌, ap, subst, refl, arith, length-append}
 use Rattle.std.proofs.lemmas.List.{append-nil, append_assoc}
 use Rattle.jl_lines.specs.declared.reader.NextLine.{NextLine}
 use Rattle.jl_lines.specs.declared.reader.NextLine.TheVariants as next_line
-use Rattle.jl_lines.specs.Lines.{has_newline, first_line, behind_line, body_of, lines_of}
-use Rattle.jl_lines.specs.Steps.{ReaderView, waiting, is_long, Passes, Keeps, IsWhole, Answers, LeftIs, NextStep}
+use Rattle.jl_lines.specs.Lines.{first_line, behind_line, lines_of}
+use Rattle.jl_lines.specs.Steps.{ReaderView, waiting, is_long, IsWhole, Answers, LeftIs, NextStep}
 use Rattle.jl_lines.proofs.StepLemmas.{of_or}
-use Rattle.jl_lines.proofs.FollowLemmas.{lines_first}
 use Rattle.std.proofs.lemmas.Bool.Decides.{Decides-ltb}
 use Rattle.jl_tracker.specs.declared.following.Tracked.{Tracked}
 use Rattle.jl_tracker.specs.declared.following.Tracked.TheVariants as tracked
 use Rattle.jl_tracker.specs.TrackerLines.{LineView}
-use Rattle.jl_tracker.specs.Counting.{CountsView, no_counts, left_of}
-use Rattle.jl_tracker.specs.Effects.{Effect, reports_bad, IsReading, IsLineReading, AreReadings, line_effects, after_read, effects_from, counts_after, end_effects}
+use Rattle.jl_tracker.specs.Counting.{CountsView, no_counts}
+use Rattle.jl_tracker.specs.Effects.{reports_bad, IsLineReading, line_effects, after_read, effects_from, counts_after, end_effects}
 use Rattle.jl_tracker.specs.Plays.{Stage, Plays, Stops}
 use Rattle.jl_tracker.specs.Turns.{HasPaths, Handles, HandlesSome, Concludes}
-use Rattle.jl_tracker.specs.Tracking.{EndsLines, Seen, Going, Tracks, TracksAll, TracksFirst, TracksMuch, TracksSome}
+use Rattle.jl_tracker.specs.Tracking.{Seen, Going, Tracks, TracksSome}
 use Rattle.jl_tracker.proofs.PlayLemmas.{plays_trans, plays_stops, plays_stop, plays_map, stops_map}
 use Rattle.jl_tracker.proofs.GoingLemmas.{line_split, seen_line, readings_push, counts_push, effects_push, line_reading}
 use Rattle.jl_tracker.proofs.HeldLemmas.{read_paths}

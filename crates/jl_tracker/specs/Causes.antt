@@ -4,7 +4,6 @@ use Rattle.jl_text.specs.Paths.{PathView}
 use Rattle.jl_folder.specs.State.{State, Trace, History, AtSome, is_file, is_folder, run, now, since}
 use Rattle.jl_folder.specs.Calls.{IsKept}
 use Rattle.jl_text.specs.Counts.{Rose}
-use Rattle.jl_tracker.specs.Removing.{RemovesFolder}
 
 -- each file that stood in the folder at first was away at some state of these moves
 abbrev pub WentAway : State → Trace → PathView → Type 0

@@ -1,11 +1,11 @@
 -- What the tracker counts.
-use Rattle.std.specs.Prelude.{◌≡◌, ℕ, List, [], ◌∷◌, ◌++◌, Option, Some, None, map, is_some, length, nat_eq, cond}
+use Rattle.std.specs.Prelude.{◌≡◌, ℕ, List, [], ◌∷◌, ◌++◌, Option, Some, None, map, length, nat_eq, cond}
 use Rattle.jl_tracker.specs.declared.line.Kind.{Kind}
 use Rattle.jl_tracker.specs.declared.line.Kind.TheVariants as kind
 use Rattle.jl_tracker.specs.declared.table.Step.{Step}
 use Rattle.jl_tracker.specs.declared.table.Step.TheVariants as step
 use Rattle.jl_tracker.specs.declared.counts.Leaked.{Leaked}
-use Rattle.jl_tracker.specs.Entries.{Entries, count_of, put, without, more_of, registered, released, release_answer, drop_answer}
+use Rattle.jl_tracker.specs.Entries.{Entries, count_of, without, more_of, registered, released, release_answer, drop_answer}
 use Rattle.jl_tracker.specs.TrackerLines.{LineView, registers, unregisters, may_unlink, probes}
 
 -- the resources of each kind, in order of registration

@@ -1,6 +1,5 @@
 -- The resources of one kind that are registered, in order of registration, with their counts.
-use Rattle.std.specs.Prelude.{◌≡◌, ℕ, ◌+◌, ◌-◌, ◌^◌, List, [], ◌∷◌, Option, Some, None, map, min, nat_lt, cond, string_bytes}
-use Rattle.std.specs.Option.{option_map_or}
+use Rattle.std.specs.Prelude.{◌≡◌, ℕ, ◌+◌, ◌-◌, ◌^◌, List, [], ◌∷◌, Option, Some, None, min, nat_lt, cond}
 use Rattle.std.specs.Str.{bytes_eq}
 use Rattle.jl_tracker.specs.declared.table.Step.{Step}
 use Rattle.jl_tracker.specs.declared.table.Step.TheVariants as step

@@ -1,5 +1,5 @@
 -- A line without the blanks at its ends, and its parts between colons.
-use Rattle.std.specs.Prelude.{◌≡◌, ℕ, List, [], ◌∷◌, ◌++◌, Bool, true, false, ◌&&◌, ◌||◌, not, nat_eq, cond}
+use Rattle.std.specs.Prelude.{◌≡◌, ℕ, List, [], ◌∷◌, Bool, true, ◌&&◌, ◌||◌, nat_eq, cond}
 use Rattle.std.specs.List.{list_any, list_all}
 
 -- a space, a tab or a carriage return

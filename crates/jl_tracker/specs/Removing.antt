@@ -1,7 +1,7 @@
 -- One removal of a resource, beside others' moves.
 use Rattle.std.specs.Prelude.{◌≡◌, ℕ, ◌≤◌, ◌⊎◌, List, [], ◌∷◌, ◌++◌, Bool, true, false, Option, None, Some}
 use Rattle.jl_text.specs.Paths.{PathView, path_of}
-use Rattle.jl_folder.specs.State.{State, Trace, History, AtSome, is_file, is_folder, IsEmptyFolder, now, since}
+use Rattle.jl_folder.specs.State.{State, History, AtSome, is_file, is_folder, IsEmptyFolder, now, since}
 use Rattle.jl_folder.specs.Calls.{Call, Waits, Maybe, IsKept}
 use Rattle.jl_text.specs.Counts.{Rose}
 use Rattle.jl_folder.specs.Listing.{ListsNames}

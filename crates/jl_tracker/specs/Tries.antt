@@ -1,16 +1,15 @@
 -- What the steps of a removal answer.
-use Rattle.std.specs.Prelude.{◌≡◌, ℕ, ◌≤◌, ◌⊎◌, List, [], ◌∷◌, ◌++◌, Bool, true, false, Option}
-use Rattle.jl_text.specs.Paths.{PathView, path_of, is_bad}
-use Rattle.jl_folder.specs.State.{State, History}
+use Rattle.std.specs.Prelude.{◌≡◌, ℕ, ◌≤◌, ◌⊎◌, List, [], ◌∷◌, ◌++◌, Bool, true, false}
+use Rattle.jl_text.specs.Paths.{PathView, is_bad}
+use Rattle.jl_folder.specs.State.{History}
 use Rattle.jl_folder.specs.Calls.{Call, Waits, Maybe}
 use Rattle.jl_folder.specs.declared.listing.Name.{Name}
-use Rattle.jl_folder.specs.declared.moves.Move.{Move}
 use Rattle.jl_folder.specs.declared.moves.Move.TheVariants.{Remove, RemoveDir}
 use Rattle.jl_tracker.specs.declared.line.Kind.{Kind}
 use Rattle.jl_tracker.specs.declared.line.Kind.TheVariants as kind
 use Rattle.jl_tracker.specs.declared.removing.Tried.{Tried}
 use Rattle.jl_tracker.specs.declared.removing.Tried.TheVariants as tried
-use Rattle.jl_tracker.specs.Removing.{TriesFile, TriesFolder, TriedFile, TriedName, TriedNames, TriedFolder, RemovesFolder, CutFolder, Removal, CutRemoval, MayMove}
+use Rattle.jl_tracker.specs.Removing.{TriesFile, TriesFolder, TriedName, TriedNames, RemovesFolder, CutFolder, Removal, CutRemoval}
 
 abbrev pub FileTry : List ℕ → PathView → Tried → History → History → ℕ → ℕ → Type 0
 FileTry me p tried.Gone a b f g = Call me a b (TriesFile p true f g)

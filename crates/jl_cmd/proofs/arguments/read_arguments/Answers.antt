@@ -1,6 +1,5 @@
-use Rattle.std.proofs.Common.{◌≡◌, ◌≤◌, ◌∙◌, ℕ, length, Ok, Err, ap, sym, arith, subst}
+use Rattle.std.proofs.Common.{◌≤◌, ◌∙◌, ℕ, Err, ap, sym, subst}
 use Rattle.jl_value.specs.Walked.{read_bytes}
-use Rattle.jl_value.specs.Form.{tree_of}
 use Rattle.jl_value.specs.Tree.{nesting}
 use Rattle.jl_value.specs.Key.{args_tree}
 use Rattle.jl_cmd.specs.Arguments.{table_in}

@@ -1,4 +1,4 @@
-use Rattle.std.proofs.Common.{rules, ◌≡◌, List, ℕ, Some}
+use Rattle.std.proofs.Common.{rules, ◌≡◌, Some}
 use Rattle.jl_words.specs.ModuleNames.{module_name_of}
 use Rattle.jl_cmd.proofs.CacheLemmas.{named_module}
 use Rattle.jl_cmd.proofs.call.memory_of.Goals as goal

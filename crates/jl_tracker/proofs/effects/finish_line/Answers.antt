@@ -1,4 +1,4 @@
-use Rattle.std.proofs.Common.{◌≡◌, subst, sym, refl}
+use Rattle.std.proofs.Common.{subst, sym}
 use Rattle.std.specs.Bool.{MatchBool}
 use Rattle.jl_tracker.specs.TrackerLines.{view_of}
 use Rattle.jl_tracker.specs.Effects.{effects_of}

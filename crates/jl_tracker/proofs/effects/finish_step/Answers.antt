@@ -1,6 +1,5 @@
-use Rattle.std.proofs.Common.{◌≡◌, subst, sym, refl}
+use Rattle.std.proofs.Common.{subst, sym, refl}
 use Rattle.std.specs.Bool.{MatchBool}
-use Rattle.jl_tracker.specs.declared.table.Step.TheVariants as step
 use Rattle.jl_tracker.specs.Effects.{step_effects, reports_unknown}
 use Rattle.jl_tracker.specs.Plays.{Plays, Stops, stage}
 use Rattle.jl_tracker.proofs.PlayLemmas.{kept_ends, stops_none}

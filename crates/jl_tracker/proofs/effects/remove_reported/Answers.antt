@@ -1,7 +1,5 @@
-use Rattle.std.proofs.Common.{◌≡◌, ◌∙◌, inl, inr, subst, sym, refl}
+use Rattle.std.proofs.Common.{◌≡◌, inl, inr}
 use Rattle.jl_tracker.specs.Effects.{removes}
-use Rattle.jl_tracker.specs.declared.line.Kind.TheVariants as kind
-use Rattle.jl_tracker.specs.declared.removing.Tried.{Tried}
 use Rattle.jl_tracker.specs.declared.removing.Tried.TheVariants as tried
 use Rattle.jl_tracker.proofs.PlayLemmas.{gone_plays, kept_ends, cut_stops}
 use Rattle.jl_tracker.proofs.effects.remove_reported.Goals as goal

@@ -1,6 +1,5 @@
 use Rattle.std.proofs.Common.{◌≡◌, false, codes, subst, sym}
 use Rattle.std.specs.Bool.{MatchBool}
-use Rattle.jl_tracker.specs.declared.line.Kind.TheVariants as kind
 use Rattle.jl_tracker.specs.Effects.{removal_text, about}
 use Rattle.jl_tracker.specs.Plays.{Wrote}
 use Rattle.jl_tracker.proofs.effects.say_kept.Goals as goal

@@ -1,6 +1,5 @@
-use Rattle.std.proofs.Common.{◌≡◌, ◌≤◌, ◌∙◌, ◌∷◌, ◌++◌, [], true, false, arith, refl, sym, ap, subst}
+use Rattle.std.proofs.Common.{◌∙◌, ◌∷◌, ◌++◌, [], true, false, arith, sym, ap, subst}
 use Rattle.std.proofs.lemmas.List.{append_assoc}
-use Rattle.jl_tracker.specs.Counting.{left_of}
 use Rattle.jl_tracker.specs.Effects.{reports_leaked, removes, left_effects, end_effects}
 use Rattle.jl_tracker.specs.Plays.{Stops, stage}
 use Rattle.jl_tracker.specs.Turns.{AreRemovable}

@@ -1,4 +1,4 @@
-use Rattle.std.proofs.Common.{◌≡◌, ◌∷◌, [], true, false, refl, subst}
+use Rattle.std.proofs.Common.{◌∷◌, [], true, false, refl, subst}
 use Rattle.std.specs.Bool.{MatchBool}
 use Rattle.jl_tracker.specs.Plays.{Plays, Stops, Wrote, stage}
 use Rattle.jl_tracker.specs.Effects.{reports_leaked, removes, text_of}

@@ -1,4 +1,4 @@
-use Rattle.std.proofs.Common.{◌≡◌, ◌∙◌, ◌≤◌, refl, arith}
+use Rattle.std.proofs.Common.{◌∙◌, refl, arith}
 use Rattle.jl_tracker.proofs.HeldLemmas.{left_removable}
 use Rattle.jl_tracker.proofs.TrackLemmas.{going_start, goes_on, concludes, smaller}
 use Rattle.jl_tracker.proofs.following.track.Goals as goal

@@ -1,6 +1,5 @@
-use Rattle.std.proofs.Common.{◌≡◌, ◌∙◌, sym, ap, subst, true≢false}
-use Rattle.std.specs.Str.{IsUtf8}
-use Rattle.jl_tracker.specs.TrackerLines.{IsNameOf, is_named}
+use Rattle.std.proofs.Common.{◌∙◌, sym, ap, true≢false}
+use Rattle.jl_tracker.specs.TrackerLines.{is_named}
 use Rattle.jl_tracker.proofs.SaidLemmas.{is_named-sound, is_named-complete}
 use Rattle.jl_tracker.proofs.line.name_of.Goals as goal
 

@@ -1,6 +1,6 @@
-use Rattle.std.proofs.Common.{◌≡◌, ◌∙◌, inl, inr, codes, sym, ap, subst, true≢false}
+use Rattle.std.proofs.Common.{◌∙◌, inl, inr, codes, sym, true≢false}
 use Rattle.std.proofs.lemmas.Slice.Eq.{bytes_eq-Decides}
-use Rattle.jl_tracker.proofs.SaidLemmas.{said_of-Says, Says-command, Says-resource}
+use Rattle.jl_tracker.proofs.SaidLemmas.{Says-command}
 use Rattle.jl_tracker.proofs.line.read_parts.Goals as goal
 
 pub returns-in_default : goal.returns-in_default

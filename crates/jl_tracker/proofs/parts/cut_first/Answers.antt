@@ -1,4 +1,4 @@
-use Rattle.std.proofs.Common.{◌≡◌, ◌+◌, ◌-◌, length, drop, take, sym, subst, arith, length-drop}
+use Rattle.std.proofs.Common.{◌+◌, ◌-◌, length, drop, take, sym, subst, arith, length-drop}
 use Rattle.std.proofs.lemmas.List.{take_all}
 use Rattle.jl_tracker.specs.Parts.{CutsFirst}
 use Rattle.jl_tracker.proofs.PartLemmas.{position-some, position-none}

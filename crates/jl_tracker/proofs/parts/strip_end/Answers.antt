@@ -1,4 +1,4 @@
-use Rattle.std.proofs.Common.{◌≡◌, ◌-◌, ◌∙◌, length, take, sym, cond, ap}
+use Rattle.std.proofs.Common.{◌-◌, ◌∙◌, length, take, sym, cond, ap}
 use Rattle.jl_tracker.specs.Parts.{strip_end}
 use Rattle.jl_tracker.proofs.PartLemmas.{strip_end-last}
 use Rattle.jl_tracker.proofs.parts.strip_end.Goals as goal

@@ -1,4 +1,4 @@
-use Rattle.std.proofs.Common.{subst, ◌∙◌, sym, ap}
+use Rattle.std.proofs.Common.{subst}
 use Rattle.jl_tracker.specs.Tries.{ListedTry}
 use Rattle.jl_tracker.proofs.RemovalLemmas.{removes_try}
 use Rattle.jl_tracker.proofs.removing.remove_folder.Goals as goal

@@ -1,4 +1,4 @@
-use Rattle.std.proofs.Common.{◌≡◌, ◌∙◌, ap}
+use Rattle.std.proofs.Common.{◌∙◌, ap}
 use Rattle.jl_tracker.specs.Entries.{count_of}
 use Rattle.jl_tracker.proofs.TableLemmas.{lookup-view}
 use Rattle.jl_tracker.proofs.table.Table.count.Goals as goal

@@ -1,4 +1,4 @@
-use Rattle.std.proofs.Common.{◌≡◌, ◌∙◌, ap}
+use Rattle.std.proofs.Common.{◌∙◌, ap}
 use Rattle.jl_tracker.specs.Entries.{without}
 use Rattle.jl_tracker.specs.Views.{view_entries}
 use Rattle.jl_tracker.proofs.TableLemmas.{remove-view}

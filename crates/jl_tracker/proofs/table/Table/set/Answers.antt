@@ -1,6 +1,5 @@
-use Rattle.std.proofs.Common.{◌≡◌, ◌∙◌, ap, sym, is_some, true≢false}
+use Rattle.std.proofs.Common.{◌∙◌, ap, sym, is_some, true≢false}
 use Rattle.jl_tracker.specs.Entries.{put, count_of}
-use Rattle.jl_tracker.specs.Views.{view_entries}
 use Rattle.jl_tracker.proofs.TableLemmas.{set_at-view, lookup-view}
 use Rattle.jl_tracker.proofs.table.Table.set.Goals as goal
 
