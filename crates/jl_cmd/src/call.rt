@@ -17,7 +17,7 @@ ghost use Rattle.jl_cmd.specs.Texts.{warning_lines};
 ghost use Rattle.jl_cmd.specs.Endings.{CommandEnds, scene, tells, status_of};
 ghost use Rattle.jl_cmd.specs.Promises.{IsUncalled};
 ghost use Rattle.jl_cmd.specs.Calling.{AreOfCall, LeavesRead, EndedAt, course_of, memory_at};
-ghost use Rattle.jl_cmd.specs.Coming.{ComesRead};
+ghost use Rattle.jl_cmd.specs.Coming.{ComesRead, EndsWith};
 ghost use Rattle.jl_cmd.specs.Run.{Writes, WritesWarned, Counts, Calls};
 
 use crate::compute::compute;
@@ -147,9 +147,9 @@ pub fn call<L: Library, F: Folder, O: Sink, H: Host>(
         file.now (memory_at location.now m (F.token folder.old)) name.now args.now
         (H.told host.old) (H.moments host.old) (L.calls lib.old) (L.calls lib.new)) }
     ensures comes { (m : List ℕ) → module_name_of file.now ≡ Some m
-        → EndedAt result.ended (ComesRead (course_of L.code L.line F.told F.token F.history F.faults folder.old folder.new)
-        file.now (memory_at location.now m (F.token folder.old)) name.now args.now
-        (L.calls lib.old) (L.calls lib.new) (λ status. result.lines ≡ [])) }
+        → EndedAt result.ended (ComesRead (course_of L.code L.line F.told F.token F.history F.faults folder.old folder.new) L.answer
+        file.now (memory_at location.now m (F.token folder.old)) name.now args.now (L.calls lib.old) (L.calls lib.new)
+        (EndsWith result.ended result.lines (O.told out.old) (O.written out.old) (O.written out.new) m)) }
     ensures calls { Calls result.ended (L.calls lib.old) (L.calls lib.new) }
     ensures lawful { F.told folder.old
         → CallsFolder (IsLawful (root_of location.now) L.answer) (IsLawful (root_of location.now) L.answer) (F.token folder.old) AnyMove

@@ -18,7 +18,7 @@ ghost use Rattle.jl_clear.specs.Doing.{AnyMove};
 ghost use Rattle.jl_store.specs.Trust.{IsTrusted};
 ghost use Rattle.jl_cmd.specs.Output.{call_output, called as called_of, answers};
 ghost use Rattle.jl_cmd.specs.Calling.{CallWarns, LeavesAsked, LeavesCalled, ComputedAt};
-ghost use Rattle.jl_cmd.specs.Coming.{ComesAsked, ComesCalled};
+ghost use Rattle.jl_cmd.specs.Coming.{ComesAsked, ComesCalled, HasComputed};
 ghost use Rattle.jl_cmd.specs.Run.{Computes, Counts, IsRefusal};
 
 use crate::arguments::{ArgumentsFault, read_arguments};
@@ -70,9 +70,9 @@ fn answered<L: Library, F: Folder, H: Host>(
         (now (F.history folder.old)) (now (F.history folder.new))
         (H.told host.old) (H.moments host.old) (L.calls lib.old) (L.calls lib.new)) }
     ensures comes { (c : List ℕ) (n : ℕ) → L.code (L.loaded lib.old) name.now ≡ Some c → L.line (L.loaded lib.old) name.now ≡ n
-        → ComputedAt result (ComesAsked (asked memory.now name.now c n args.now)
+        → ComputedAt result (ComesAsked (asked memory.now name.now c n args.now) L.answer
         (F.told folder.old) (F.faults folder.old) (F.faults folder.new) (F.history folder.old) (F.history folder.new)
-        (L.calls lib.old) (L.calls lib.new) (λ status. warnings.new.items ≡ warnings.old.items)) }
+        (L.calls lib.old) (L.calls lib.new) (HasComputed result warnings.old.items warnings.new.items)) }
     ensures idle { IsRefusal result → folder.new ≡ folder.old }
     ensures told { F.told folder.old → F.told folder.new }
     ensures token { F.token folder.new ≡ F.token folder.old }
@@ -118,9 +118,9 @@ fn called<L: Library, F: Folder, H: Host>(
         → ComputedAt result (LeavesCalled L.code L.line L.answer memory.now (L.loaded lib.old) name.now args.now
         (now (F.history folder.old)) (now (F.history folder.new))
         (H.told host.old) (H.moments host.old) (L.calls lib.old) (L.calls lib.new)) }
-    ensures comes { ComputedAt result (ComesCalled L.code L.line memory.now (L.loaded lib.old) name.now args.now
+    ensures comes { ComputedAt result (ComesCalled L.code L.line L.answer memory.now (L.loaded lib.old) name.now args.now
         (F.told folder.old) (F.faults folder.old) (F.faults folder.new) (F.history folder.old) (F.history folder.new)
-        (L.calls lib.old) (L.calls lib.new) (λ status. warnings.new.items ≡ warnings.old.items)) }
+        (L.calls lib.old) (L.calls lib.new) (HasComputed result warnings.old.items warnings.new.items)) }
     ensures idle { IsRefusal result → folder.new ≡ folder.old }
     ensures told { F.told folder.old → F.told folder.new }
     ensures token { F.token folder.new ≡ F.token folder.old }
@@ -168,9 +168,9 @@ pub fn compute<L: Library, F: Folder, H: Host>(
         → ComputedAt result (LeavesCalled L.code L.line L.answer memory.now bytes.now name.now args.now
         (now (F.history folder.old)) (now (F.history folder.new))
         (H.told host.old) (H.moments host.old) (L.calls lib.old) (L.calls lib.new)) }
-    ensures comes { ComputedAt result (ComesCalled L.code L.line memory.now bytes.now name.now args.now
+    ensures comes { ComputedAt result (ComesCalled L.code L.line L.answer memory.now bytes.now name.now args.now
         (F.told folder.old) (F.faults folder.old) (F.faults folder.new) (F.history folder.old) (F.history folder.new)
-        (L.calls lib.old) (L.calls lib.new) (λ status. warnings.new.items ≡ warnings.old.items)) }
+        (L.calls lib.old) (L.calls lib.new) (HasComputed result warnings.old.items warnings.new.items)) }
     ensures idle { IsRefusal result → folder.new ≡ folder.old }
     ensures told { F.told folder.old → F.told folder.new }
     ensures token { F.token folder.new ≡ F.token folder.old }

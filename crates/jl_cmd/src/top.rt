@@ -17,7 +17,7 @@ ghost use Rattle.jl_cmd.specs.Promises.{IsWhole, IsSilent, IsStatus, IsUnmoved, 
 ghost use Rattle.jl_cmd.specs.Promises.{Answers, AnswersFront, CountsCalls, IsValid, IsFaultless, IsComplete};
 ghost use Rattle.jl_cmd.specs.Calling.{EndedAt, course_of};
 ghost use Rattle.jl_cmd.specs.Saying.{GivenLines, SaidBy, GivenLeaves, StatusAt};
-ghost use Rattle.jl_cmd.specs.Coming.{GivenComes, SaidNothing};
+ghost use Rattle.jl_cmd.specs.Coming.{GivenComes, EndsWith, PutsOut};
 ghost use Rattle.jl_cmd.specs.Run.{GivenCalls, AreCalling};
 
 use crate::call::{Warned, call, ended, finish};
@@ -71,8 +71,8 @@ fn given<L: Library, F: Folder, S: Source, O: Sink, E: Sink, H: Host>(
         (course_of L.code L.line F.told F.token F.history F.faults folder.old folder.new) L.answer
         (H.told host.old) (H.moments host.old) (L.calls lib.old) (L.calls lib.new) (EndedAt result.ended) }
     ensures comes { GivenComes (command_of settings.now)
-        (course_of L.code L.line F.told F.token F.history F.faults folder.old folder.new)
-        (L.calls lib.old) (L.calls lib.new) (λ status. result.lines ≡ []) (EndedAt result.ended) }
+        (course_of L.code L.line F.told F.token F.history F.faults folder.old folder.new) L.answer (L.calls lib.old) (L.calls lib.new)
+        (EndsWith result.ended result.lines (O.told out.old) (O.written out.old) (O.written out.new)) (EndedAt result.ended) }
     ensures idle { F.told folder.old → IsUnmoved (command_of settings.now) (status_of result.ended)
         → OwnMoves (F.token folder.old) Silent (since (F.history folder.old) (F.history folder.new)) }
     ensures clears { GivenClears (command_of settings.now) (result.ended ≡ Done)
@@ -165,8 +165,8 @@ fn command<L: Library, F: Folder, S: Source, O: Sink, E: Sink, H: Host>(
         (course_of L.code L.line F.told F.token F.history F.faults folder.old folder.new) L.answer
         (H.told host.old) (H.moments host.old) (L.calls lib.old) (L.calls lib.new) (EndedAt result.ended) }
     ensures comes { GivenComes (given_by words.now (H.processors host.old))
-        (course_of L.code L.line F.told F.token F.history F.faults folder.old folder.new)
-        (L.calls lib.old) (L.calls lib.new) (λ status. result.lines ≡ []) (EndedAt result.ended) }
+        (course_of L.code L.line F.told F.token F.history F.faults folder.old folder.new) L.answer (L.calls lib.old) (L.calls lib.new)
+        (EndsWith result.ended result.lines (O.told out.old) (O.written out.old) (O.written out.new)) (EndedAt result.ended) }
     ensures idle { F.told folder.old → IsUnmoved (given_by words.now (H.processors host.old)) (status_of result.ended)
         → OwnMoves (F.token folder.old) Silent (since (F.history folder.old) (F.history folder.new)) }
     ensures clears { GivenClears (given_by words.now (H.processors host.old)) (result.ended ≡ Done)
@@ -270,10 +270,12 @@ pub fn run<L: Library, F: Folder, S: Source, O: Sink, E: Sink, H: Host>(
     ensures alone { GivenLeaves (given_by words.now (H.processors host.old))
         (course_of L.code L.line F.told F.token F.history F.faults folder.old folder.new) L.answer
         (H.told host.old) (H.moments host.old) (L.calls lib.old) (L.calls lib.new) (StatusAt result) }
-    // Whatever others do: a value was found where its entry was opened, and else the function was called; and a call that said nothing left nothing undone.
+    // Whatever others do: the value that was put out was found where its entry was opened, or else the function was called and this is its
+    // answer; and what the call left undone it warned of.
     ensures comes { GivenComes (given_by words.now (H.processors host.old))
-        (course_of L.code L.line F.told F.token F.history F.faults folder.old folder.new)
-        (L.calls lib.old) (L.calls lib.new) (SaidNothing (E.told err.old) (E.faults err.old) (E.faults err.new) (E.written err.old) (E.written err.new)) (StatusAt result) }
+        (course_of L.code L.line F.told F.token F.history F.faults folder.old folder.new) L.answer (L.calls lib.old) (L.calls lib.new)
+        (PutsOut (O.told out.old) (O.written out.old) (O.written out.new)
+        (E.told err.old × (Rose (E.faults err.old) (E.faults err.new) → ⊥)) (E.written err.old) (E.written err.new)) (StatusAt result) }
     // Whatever others do, a run that is refused makes no move.
     ensures idle { F.told folder.old → IsUnmoved (given_by words.now (H.processors host.old)) result
         → OwnMoves (F.token folder.old) Silent (since (F.history folder.old) (F.history folder.new)) }

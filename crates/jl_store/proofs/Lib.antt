@@ -4,6 +4,7 @@ pub mod CheckLemmas
 pub mod Cleared
 pub mod CodeAlone
 pub mod Coming
+pub mod DoneLemmas
 pub mod Drafts
 pub mod Ending
 pub mod EntryMade
@@ -23,7 +24,6 @@ pub mod Making
 pub mod NamePlaces
 pub mod PartWarnings
 pub mod Readiness
-pub mod SilentLemmas
 pub mod SkipCauses
 pub mod StorePaths
 pub mod StoringLemmas

@@ -2,6 +2,7 @@ pub mod Alone
 pub mod Cached
 pub mod Checking
 pub mod Doing
+pub mod Done
 pub mod Keeping
 pub mod Kinds
 pub mod Looking
@@ -9,7 +10,6 @@ pub mod Next
 pub mod Parts
 pub mod Publishing
 pub mod Reading
-pub mod Silent
 pub mod Storing
 pub mod Trust
 pub mod Warned

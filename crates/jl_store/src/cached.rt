@@ -26,7 +26,7 @@ ghost use Rattle.jl_store.specs.Looking.{Stands, output_path};
 ghost use Rattle.jl_store.specs.Cached.{IsAnswer, CountsCall, IsMissed, ComesBy, ComesTidy};
 ghost use Rattle.jl_store.specs.Next.{AnswersAlone, LeavesNext, AreTimed, asked};
 ghost use Rattle.jl_store.specs.Warned.{IsOrderly, Warns, WarnsOfOthers};
-ghost use Rattle.jl_store.specs.Silent.{HasAnswered, HasDoneAll, HasKept};
+ghost use Rattle.jl_store.specs.Done.{PartDone, KeepsOrWarns, AnswersOrWarns, DoesOrWarns};
 ghost use Rattle.jl_store.specs.Parts.{WarnsFrom, HasFunction, HasFolder, keep_warns, check_warns};
 ghost use Rattle.jl_store.specs.Trust.{IsTrusted};
 
@@ -133,8 +133,8 @@ fn found<F: Folder, H: Host>(
     ensures found { (result ≡ Cached.Hit value) ⊎ (result ≡ Cached.NoMemory) }
     ensures warns { (c : List ℕ) (n : ℕ) (ps : Members) → key.now.0 ≡ key_of ps →
         WarnsFrom (HasFolder (asked memory.now name.now c n ps)) warnings.old.items warnings.new.items (asked memory.now name.now c n ps) (F.told folder.old) (F.faults folder.old) (F.faults folder.new) (F.history folder.old) (F.history folder.new) }
-    ensures silent { F.told folder.old → warnings.new.items ≡ warnings.old.items → result ≡ Cached.Hit value →
-        HasPut (entry_in memory.now name.now key.now.0) (F.token folder.old) EntryFile.Access (since (F.history folder.old) (F.history folder.new)) }
+    ensures done { F.told folder.old → result ≡ Cached.Hit value →
+        PartDone (HasPut (entry_in memory.now name.now key.now.0) (F.token folder.old) EntryFile.Access (since (F.history folder.old) (F.history folder.new))) warnings.old.items warnings.new.items }
     ensures alone { F.told folder.old → IsLone (F.token folder.old) (since (F.history folder.old) (F.history folder.new)) →
         IsReadyToTouch (entry_in memory.now name.now key.now.0) (now (F.history folder.old)) → (Rose (F.faults folder.old) (F.faults folder.new) → ⊥) → result ≡ Cached.Hit value →
         (moment : ℕ) × IsPublished (last_of (entry_in memory.now name.now key.now.0) EntryFile.Access) (temp_of (entry_in memory.now name.now key.now.0) (F.token folder.old) EntryFile.Access) (access_text moment) (now (F.history folder.old)) (now (F.history folder.new))
@@ -179,8 +179,8 @@ fn computed<F: Folder>(
     ensures computed { (result ≡ Cached.Computed value) ⊎ (result ≡ Cached.NoMemory) }
     ensures warns { (n : ℕ) →
         WarnsFrom (HasFunction (asked memory.now name.now code.now n args.now)) warnings.old.items warnings.new.items (asked memory.now name.now code.now n args.now) (F.told folder.old) (F.faults folder.old) (F.faults folder.new) (F.history folder.old) (F.history folder.new) }
-    ensures silent { F.told folder.old → warnings.new.items ≡ warnings.old.items → result ≡ Cached.Computed value →
-        HasPutAll (entry_in memory.now name.now (key_of args.now)) (F.token folder.old) (since (F.history folder.old) (F.history folder.new)) }
+    ensures done { F.told folder.old → result ≡ Cached.Computed value →
+        PartDone (HasPutAll (entry_in memory.now name.now (key_of args.now)) (F.token folder.old) (since (F.history folder.old) (F.history folder.new))) warnings.old.items warnings.new.items }
     ensures alone { F.told folder.old → IsLone (F.token folder.old) (since (F.history folder.old) (F.history folder.new)) →
         IsReadyToKeep (entry_in memory.now name.now (key_of args.now)) (now (F.history folder.old)) → (Rose (F.faults folder.old) (F.faults folder.new) → ⊥) → result ≡ Cached.Computed value →
         HasEntry (entry_in memory.now name.now (key_of args.now)) (F.token folder.old) (texts_of code.now args.now (tree_of value) duration moment) (now (F.history folder.old)) (now (F.history folder.new)) }
@@ -226,8 +226,8 @@ fn missed<L: Library, F: Folder, H: Host>(
     ensures missed { IsMissed result (L.answer code.now args.now) (L.calls lib.old) (L.calls lib.new) }
     ensures warns { (n : ℕ) →
         WarnsFrom (HasFunction (asked memory.now name.now code.now n args.now)) warnings.old.items warnings.new.items (asked memory.now name.now code.now n args.now) (F.told folder.old) (F.faults folder.old) (F.faults folder.new) (F.history folder.old) (F.history folder.new) }
-    ensures silent { F.told folder.old → (n : ℕ) → warnings.new.items ≡ warnings.old.items →
-        HasKept result (asked memory.now name.now code.now n args.now) (since (F.history folder.old) (F.history folder.new)) }
+    ensures done { F.told folder.old → (n : ℕ) →
+        KeepsOrWarns result (asked memory.now name.now code.now n args.now) (since (F.history folder.old) (F.history folder.new)) warnings.old.items warnings.new.items }
     ensures alone { F.told folder.old → (n : ℕ) → IsLone (F.token folder.old) (since (F.history folder.old) (F.history folder.new)) →
         IsReadyToKeep (entry_in memory.now name.now (key_of args.now)) (now (F.history folder.old)) → (Rose (F.faults folder.old) (F.faults folder.new) → ⊥) →
         (Stands (output_path (root_of memory.now.location) memory.now.«module» name.now args.now) code.now args.now (now (F.history folder.old)) → ⊥) →
@@ -287,8 +287,8 @@ fn answered<L: Library, F: Folder, H: Host>(
         (IsSound (root_of memory.now.location) L.answer) (IsSound (root_of memory.now.location) L.answer) (F.history folder.old) (F.history folder.new) }
     ensures warns { (n : ℕ) →
         WarnsFrom (HasFunction (asked memory.now name.now code.now n args.now)) warnings.old.items warnings.new.items (asked memory.now name.now code.now n args.now) (F.told folder.old) (F.faults folder.old) (F.faults folder.new) (F.history folder.old) (F.history folder.new) }
-    ensures silent { F.told folder.old → (n : ℕ) → warnings.new.items ≡ warnings.old.items →
-        HasAnswered result (asked memory.now name.now code.now n args.now) (now (F.history folder.old)) (since (F.history folder.old) (F.history folder.new)) }
+    ensures done { F.told folder.old → (n : ℕ) →
+        AnswersOrWarns result (asked memory.now name.now code.now n args.now) (now (F.history folder.old)) (since (F.history folder.old) (F.history folder.new)) warnings.old.items warnings.new.items }
     ensures alone { F.told folder.old → (n : ℕ) → IsLone (F.token folder.old) (since (F.history folder.old) (F.history folder.new)) →
         IsReadyToKeep (entry_in memory.now name.now (key_of args.now)) (now (F.history folder.old)) → (Rose (F.faults folder.old) (F.faults folder.new) → ⊥) →
         (duration : ℕ) × (moment : ℕ) × AnswersAlone result (asked memory.now name.now code.now n args.now) duration moment (now (F.history folder.old)) (now (F.history folder.new))
@@ -351,9 +351,9 @@ pub fn call_cached<L: Library, F: Folder, H: Host>(
     // Each warning is on this call, and has its cause.
     ensures warns { (c : List ℕ) (n : ℕ) → L.code (L.loaded lib.old) name.now ≡ Some c → L.line (L.loaded lib.old) name.now ≡ n →
         Warns warnings.old.items warnings.new.items (asked memory.now name.now c n args.now) (F.told folder.old) (F.faults folder.old) (F.faults folder.new) (F.history folder.old) (F.history folder.new) }
-    // Where it warned of nothing, the code's file was right or put in place, and the entry that was found was renewed or a new one put in place.
-    ensures silent { (c : List ℕ) (n : ℕ) → L.code (L.loaded lib.old) name.now ≡ Some c → L.line (L.loaded lib.old) name.now ≡ n → F.told folder.old → warnings.new.items ≡ warnings.old.items →
-        HasDoneAll result (asked memory.now name.now c n args.now) (now (F.history folder.old)) (since (F.history folder.old) (F.history folder.new)) }
+    // Each part was done or warned of: the code's file was right or put in place, a value was found or there was no output, and its entry was renewed or a new one put in place.
+    ensures done { (c : List ℕ) (n : ℕ) → L.code (L.loaded lib.old) name.now ≡ Some c → L.line (L.loaded lib.old) name.now ≡ n → F.told folder.old →
+        DoesOrWarns result (asked memory.now name.now c n args.now) (now (F.history folder.old)) (since (F.history folder.old) (F.history folder.new)) warnings.old.items warnings.new.items }
     // Where no other moved and no fault rose, it leaves the folder so: the code checked, and then the answer found or kept.
     ensures alone { F.told folder.old → (c : List ℕ) (n : ℕ) → L.code (L.loaded lib.old) name.now ≡ Some c → L.line (L.loaded lib.old) name.now ≡ n →
         IsLone (F.token folder.old) (since (F.history folder.old) (F.history folder.new)) → IsTidy (root_of memory.now.location) (now (F.history folder.old)) → (Rose (F.faults folder.old) (F.faults folder.new) → ⊥) →

@@ -149,7 +149,7 @@ returns-in-Bytes-clause-comes g c =
     let before = λ (is : w.tells). lawful_waits root lib.answer token old mid (c.read_file.ensures.waits is) in
     let after = λ (is : w.tells). lawful_as lib.answer c.in-Ok.memory.location c.args.location.now (folder.token c.read_file.new.folder) token mid new c.in-Ok.ensures.location c.read_file.ensures.token (c.compute-computed.ensures.lawful (c.read_file.ensures.told is)) in
     let m = c.as_slice.result.now in
-    written_comes w c.args.file.now c.args.location.now c.in-Ok.memory c.in-Ok.ensures.location c.in-Ok.ensures.module_name by m c.args.name.now c.args.args.now mid
+    written_comes w lib.answer c.args.file.now c.args.location.now c.in-Ok.memory c.in-Ok.ensures.location c.in-Ok.ensures.module_name by m c.args.name.now c.args.args.now mid
     _ _ c.compute-computed.result c.written.result.ended c.written.result.lines c.new-warnings.result.items c.compute-computed.new.warnings.items _ _ _ _ _ (folder.faults c.read_file.new.folder) (folder.told c.read_file.new.folder) c.new-warnings.ensures.items c.written.ensures.writes
     (subst (λ (ws : List Warning). (c.written.result.lines ≡ warning_lines c.in-Ok.memory.«module» ws) ⊎ ((c.written.result.lines ≡ []) × (c.written.result.ended ≡ NoMemory))) c.as_slice-in-Bytes.ensures.value c.written.ensures.lines)
     (λ is. goes_lawful root lib.answer token old mid (before is)) (λ is. goes_lawful root lib.answer token mid new (after is)) c.read_file.ensures.told c.read_file.ensures.faults.later

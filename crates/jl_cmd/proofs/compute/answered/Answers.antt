@@ -1,8 +1,11 @@
 use Rattle.std.proofs.Common.{refl}
+use Rattle.jl_value.specs.Form.{tree_of}
 use Rattle.jl_store.specs.Next.{asked}
 use Rattle.jl_store.specs.declared.cached.Cached.TheVariants.{Hit, Computed, Error}
+use Rattle.jl_cmd.specs.Output.{prints, fails}
 use Rattle.jl_cmd.proofs.CacheLemmas.{defined_named}
 use Rattle.jl_cmd.proofs.CallingLemmas.{asked_leaves, printed_at, failed_at}
+use Rattle.jl_cmd.proofs.ComingLemmas.{printed_with, failed_with, done_but}
 use Rattle.jl_cmd.proofs.IdleLemmas.{printed_refuses, failed_refuses}
 use Rattle.jl_cmd.proofs.compute.answered.Goals as goal
 
@@ -26,14 +29,20 @@ returns-in-Error-clause-alone g c = λ told code n is line lone sound rose.
 
 pub returns-in-Hit-clause-comes : goal.returns-in-Hit-clause-comes
 returns-in-Hit-clause-comes g c = λ code n is line.
-    printed_at c.printed.result _ c.printed.ensures.printed
-    (record {
+    let warned = c.in-Hit.ensures.warns code n is line in
+    printed_with (prints (tree_of c.in-Hit.value)) c.printed.result _ c.printed.ensures.computes c.printed.ensures.printed
+    (λ put. record {
       result = Hit c.in-Hit.value;
+      output = prints (tree_of c.in-Hit.value);
+      gives = refl;
       status = refl;
+      warnings = warned.0;
+      puts = (put, warned.1);
+      answers = λ none. absurd none;
       counts = c.in-Hit.ensures.calls;
       comes = c.in-Hit.ensures.looks code is;
       tidy = c.in-Hit.ensures.tidy code is;
-      done = c.in-Hit.ensures.silent code n is line;
+      done = λ told. done_but (Hit c.in-Hit.value) _ _ _ _ _ warned.0 warned.1 (c.in-Hit.ensures.done code n is line told);
     })
 
 pub returns-in-Hit-clause-idle : goal.returns-in-Hit-clause-idle
@@ -41,14 +50,20 @@ returns-in-Hit-clause-idle g c = λ refusal. absurd (printed_refuses c.printed.r
 
 pub returns-in-Computed-clause-comes : goal.returns-in-Computed-clause-comes
 returns-in-Computed-clause-comes g c = λ code n is line.
-    printed_at c.printed-in-Computed.result _ c.printed-in-Computed.ensures.printed
-    (record {
+    let warned = c.in-Computed.ensures.warns code n is line in
+    printed_with (prints (tree_of c.in-Computed.value)) c.printed-in-Computed.result _ c.printed-in-Computed.ensures.computes c.printed-in-Computed.ensures.printed
+    (λ put. record {
       result = Computed c.in-Computed.value;
+      output = prints (tree_of c.in-Computed.value);
+      gives = refl;
       status = refl;
+      warnings = warned.0;
+      puts = (put, warned.1);
+      answers = c.in-Computed.ensures.answer code is;
       counts = c.in-Computed.ensures.calls;
       comes = c.in-Computed.ensures.looks code is;
       tidy = c.in-Computed.ensures.tidy code is;
-      done = c.in-Computed.ensures.silent code n is line;
+      done = λ told. done_but (Computed c.in-Computed.value) _ _ _ _ _ warned.0 warned.1 (c.in-Computed.ensures.done code n is line told);
     })
 
 pub returns-in-Computed-clause-idle : goal.returns-in-Computed-clause-idle
@@ -56,14 +71,20 @@ returns-in-Computed-clause-idle g c = λ refusal. absurd (printed_refuses c.prin
 
 pub returns-in-Error-clause-comes : goal.returns-in-Error-clause-comes
 returns-in-Error-clause-comes g c = λ code n is line.
-    failed_at c.failed.result _ c.failed.ensures.failed
-    (record {
+    let warned = c.in-Error.ensures.warns code n is line in
+    failed_with (fails 0 c.in-Error.error) c.failed.result _ c.failed.ensures.computes c.failed.ensures.failed
+    (λ put. record {
       result = Error c.in-Error.error;
+      output = fails 0 c.in-Error.error;
+      gives = refl;
       status = refl;
+      warnings = warned.0;
+      puts = (put, warned.1);
+      answers = c.in-Error.ensures.answer code is;
       counts = c.in-Error.ensures.calls;
       comes = c.in-Error.ensures.looks code is;
       tidy = c.in-Error.ensures.tidy code is;
-      done = c.in-Error.ensures.silent code n is line;
+      done = λ told. done_but (Error c.in-Error.error) _ _ _ _ _ warned.0 warned.1 (c.in-Error.ensures.done code n is line told);
     })
 
 pub returns-in-Error-clause-idle : goal.returns-in-Error-clause-idle

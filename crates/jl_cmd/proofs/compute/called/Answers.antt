@@ -1,4 +1,4 @@
-use Rattle.std.proofs.Common.{rules, ◌≡◌, ℕ, List, [], IsSome, inl, inr, refl, sym, append-nil}
+use Rattle.std.proofs.Common.{rules, [], IsSome, inl, inr, refl, sym, append-nil}
 use Rattle.jl_laws.proofs.Before.{some_of}
 use Rattle.jl_store.proofs.Lawfully.{lawful_none}
 use Rattle.jl_cmd.proofs.CallingLemmas.{computed_map, refused_at}

@@ -1,9 +1,8 @@
 use Rattle.std.proofs.Common.{rules, ◌≡◌, ℕ, List, [], inl, refl, sym, subst, append-nil}
-use Rattle.jl_store.specs.declared.memory.Warning.{Warning}
 use Rattle.jl_folder.specs.State.{now}
 use Rattle.jl_store.proofs.Lawfully.{lawful_none}
-use Rattle.jl_cmd.specs.Calling.{CallWarns, LeavesCalled, ComputedAt}
-use Rattle.jl_cmd.specs.Coming.{ComesCalled}
+use Rattle.jl_cmd.specs.Calling.{CallWarns, LeavesCalled}
+use Rattle.jl_cmd.specs.Coming.{ComesCalled, HasComputed}
 use Rattle.jl_cmd.proofs.CallingLemmas.{computed_map, refused_at}
 use Rattle.jl_cmd.proofs.compute.compute.Goals as goal
 
@@ -62,7 +61,7 @@ returns-in-Read-clause-comes g c =
     let loaded : lib.loaded c.read_module.new.self ≡ c.args.bytes.now = search rules in
     let calls : lib.calls c.read_module.new.self ≡ lib.calls c.args.lib.now = search rules in
     let folder = g.F.Folder in
-    let comes = λ (bytes : List ℕ) (k n : ℕ). ComesCalled lib.code lib.line c.args.memory.now bytes c.args.name.now c.args.args.now (folder.told c.args.folder.now) (folder.faults c.args.folder.now) (folder.faults c.called.new.folder) (folder.history c.args.folder.now) (folder.history c.called.new.folder) k (lib.calls c.called.new.lib) (λ status. c.called.new.warnings.items ≡ c.args.warnings.now.items) n in
+    let comes = λ (bytes : List ℕ) (k n : ℕ). ComesCalled lib.code lib.line lib.answer c.args.memory.now bytes c.args.name.now c.args.args.now (folder.told c.args.folder.now) (folder.faults c.args.folder.now) (folder.faults c.called.new.folder) (folder.history c.args.folder.now) (folder.history c.called.new.folder) k (lib.calls c.called.new.lib) (HasComputed c.called.result c.args.warnings.now.items c.called.new.warnings.items) n in
     computed_map c.called.result (comes (lib.loaded c.read_module.new.self) (lib.calls c.read_module.new.self)) (comes c.args.bytes.now (lib.calls c.args.lib.now))
     (λ n h. subst (λ (k : ℕ). comes c.args.bytes.now k n) calls (subst (λ (bytes : List ℕ). comes bytes (lib.calls c.read_module.new.self) n) loaded h))
     c.called.ensures.comes

@@ -1,4 +1,4 @@
-use Rattle.std.proofs.Common.{◌≡◌, ℕ, List, [], Option, map, string_bytes, ap, sym, subst, ◌∙◌}
+use Rattle.std.proofs.Common.{◌≡◌, ℕ, List, Option, map, string_bytes, ap, sym, subst, ◌∙◌}
 use Rattle.std.specs.Option.{option_and_then}
 use Rattle.jl_cmd.specs.Commands.{Command, command_of, given_of}
 use Rattle.jl_cmd.specs.declared.ended.Ended.{Ended}
@@ -6,7 +6,7 @@ use Rattle.jl_cmd.specs.Output.{Output, output_of, AreReading}
 use Rattle.jl_cmd.specs.Following.{GivenFollows}
 use Rattle.jl_cmd.specs.Calling.{Course, course, EndedAt}
 use Rattle.jl_cmd.specs.Saying.{GivenLines, GivenLeaves}
-use Rattle.jl_cmd.specs.Coming.{GivenComes}
+use Rattle.jl_cmd.specs.Coming.{GivenComes, EndsWith}
 use Rattle.jl_cmd.proofs.ComingLemmas.{comes_nothing}
 use Rattle.jl_cmd.proofs.CallingLemmas.{given_nothing, usage_at_end, memory_at_end}
 use Rattle.jl_folder.specs.State.{since}
@@ -90,14 +90,14 @@ returns-in-Ok-clause-comes g c =
     let folder = g.F.Folder in
     let lib = g.L.Library in
     let w : Course = course lib.code lib.line (folder.told c.args.folder.now) (folder.token c.args.folder.now) (folder.history c.args.folder.now) (folder.history c.given.new.folder) (folder.faults c.args.folder.now) (folder.faults c.given.new.folder) in
-    subst (λ (o : Option Command). GivenComes o w (lib.calls c.args.lib.now) (lib.calls c.given.new.lib) (λ status. c.given.result.lines ≡ []) (EndedAt c.given.result.ended))
+    subst (λ (o : Option Command). GivenComes o w lib.answer (lib.calls c.args.lib.now) (lib.calls c.given.new.lib) (EndsWith c.given.result.ended c.given.result.lines (g.O.Sink.told c.args.out.now) (g.O.Sink.written c.args.out.now) (g.O.Sink.written c.given.new.out)) (EndedAt c.given.result.ended))
     (sym (ap (option_and_then command_of) c.in-Ok.ensures.given) ∙ ap (λ (n : ℕ). given_of (map string_bytes c.args.words.now) n) c.processors.ensures.count) c.given.ensures.comes
 
 pub returns-in-Err-Usage-clause-comes : goal.returns-in-Err-Usage-clause-comes
-returns-in-Err-Usage-clause-comes g c = comes_nothing _ _ _ _ _ c.ended.result.ended (λ P. usage_at_end _ P c.ended.ensures.ended)
+returns-in-Err-Usage-clause-comes g c = comes_nothing _ _ _ _ _ _ c.ended.result.ended (λ P. usage_at_end _ P c.ended.ensures.ended)
 
 pub returns-in-Err-Memory-clause-comes : goal.returns-in-Err-Memory-clause-comes
-returns-in-Err-Memory-clause-comes g c = comes_nothing _ _ _ _ _ c.ended-in-Err-Memory.result.ended (λ P. memory_at_end _ P c.ended-in-Err-Memory.ensures.ended)
+returns-in-Err-Memory-clause-comes g c = comes_nothing _ _ _ _ _ _ c.ended-in-Err-Memory.result.ended (λ P. memory_at_end _ P c.ended-in-Err-Memory.ensures.ended)
 
 pub returns-in-Ok-clause-input : goal.returns-in-Ok-clause-input
 returns-in-Ok-clause-input g c =

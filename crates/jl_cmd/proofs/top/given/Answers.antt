@@ -11,7 +11,7 @@ use Rattle.jl_tracker.specs.Plays.{stage}
 use Rattle.jl_cmd.specs.Following.{GivenFollows}
 use Rattle.jl_cmd.specs.Calling.{Course, course, EndedAt}
 use Rattle.jl_cmd.specs.Saying.{GivenLines, GivenLeaves}
-use Rattle.jl_cmd.specs.Coming.{GivenComes}
+use Rattle.jl_cmd.specs.Coming.{GivenComes, EndsWith}
 use Rattle.jl_cmd.specs.Clears.{GivenClears}
 use Rattle.jl_cmd.specs.declared.ended.Ended.TheVariants.{Done}
 use Rattle.jl_cmd.proofs.ClearEnds.{clears_so, runs_clear}
@@ -248,7 +248,7 @@ returns-in-Call-clause-comes g c =
     let folder = g.F.Folder in
     let lib = g.L.Library in
     let w : Course = course lib.code lib.line (folder.told c.args.folder.now) (folder.token c.args.folder.now) (folder.history c.args.folder.now) (folder.history c.call.new.folder) (folder.faults c.args.folder.now) (folder.faults c.call.new.folder) in
-    let comes = λ (o : Option Command). GivenComes o w (lib.calls c.args.lib.now) (lib.calls c.call.new.lib) (λ status. c.call.result.lines ≡ []) (EndedAt c.call.result.ended) in
+    let comes = λ (o : Option Command). GivenComes o w lib.answer (lib.calls c.args.lib.now) (lib.calls c.call.new.lib) (EndsWith c.call.result.ended c.call.result.lines (g.O.Sink.told c.args.out.now) (g.O.Sink.written c.args.out.now) (g.O.Sink.written c.call.new.out)) (EndedAt c.call.result.ended) in
     let over = λ (name args : List ℕ). comes (Some (call c.in-Call.module c.in-Call.location name args)) in
     let named = subst (λ (n : List ℕ). over n c.as_str-in-Call.result.now) c.as_str.ensures c.call.ensures.comes in
     subst (λ (s : Settings). comes (command_of s)) (sym c.in-Call.is) (subst (λ (a : List ℕ). over c.in-Call.func a) c.as_str-in-Call.ensures named)

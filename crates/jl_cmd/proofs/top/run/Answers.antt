@@ -1,4 +1,5 @@
 use Rattle.std.proofs.Common.{◌≡◌, ◌∙◌, ◌++◌, ℕ, List, Option, Some, map, string_bytes, sym, ap, subst}
+use Rattle.jl_clear.proofs.DoingLemmas.{later_rose}
 use Rattle.jl_cmd.specs.Commands.{Command, given_of}
 use Rattle.jl_cmd.specs.Endings.{last_text}
 use Rattle.jl_cmd.specs.Promises.{IsUnmoved}
@@ -51,8 +52,11 @@ returns-clause-alone g c = given_at _ _ _ _ _ _ _ c.command-warned.result.ended 
 pub returns-clause-comes : goal.returns-clause-comes
 returns-clause-comes g c =
     let E = g.E.Sink in
-    comes_at _ _ _ c.command-warned.result.lines _ (E.written c.args.err.now) (E.written c.command-warned.new.err) (E.written c.report.new.err) _ _ _ c.command-warned.result.ended c.status.result c.status.ensures c.command-warned.ensures.err_later
-    (λ told. c.report.ensures.text (c.command-warned.ensures.err_told told)) _ (λ none. ap E.written (c.command-warned.ensures.quiet none)) c.command-warned.ensures.comes
+    let out = g.O.Sink in
+    let later = c.command-warned.ensures.err_later in
+    comes_at _ _ _ _ c.command-warned.result.lines (out.told c.args.out.now) _ (out.written c.args.out.now) (out.written c.command-warned.new.out) (E.written c.args.err.now) (E.written c.command-warned.new.err) (E.written c.report.new.err) c.command-warned.result.ended c.status.result c.status.ensures
+    (λ clear. c.report.ensures.text (c.command-warned.ensures.err_told clear.0) (λ rose. clear.1 (later_rose _ _ _ later rose)))
+    _ (λ none. ap E.written (c.command-warned.ensures.quiet none)) c.command-warned.ensures.comes
 
 pub returns-clause-idle : goal.returns-clause-idle
 returns-clause-idle g c = λ told stopped.

@@ -17,13 +17,14 @@ use Rattle.jl_store.specs.Looking.{Stands, output_path, warnings_for}
 use Rattle.jl_store.specs.Next.{asked, entry_asked, output_asked}
 use Rattle.jl_store.specs.Warned.{UsesCall}
 use Rattle.jl_store.specs.Parts.{HasFunction, HasFolder}
+use Rattle.jl_store.specs.Done.{PartDone}
 use Rattle.jl_store.specs.declared.found.Look.TheVariants as look
 use Rattle.jl_store.proofs.Answering.{found_answer, found_count, missed_answer, missed_count}
 use Rattle.jl_store.proofs.Lawfully.{lawful_waits, lawful_then, lawful_at, lawful_goes, trusted_front}
 use Rattle.jl_store.proofs.Causing.{warns_none, warns_then, orderly_sooner}
 use Rattle.jl_store.proofs.Coming.{found_comes, missed_comes, found_tidy, missed_tidy}
 use Rattle.jl_store.proofs.PartWarnings.{look_warns}
-use Rattle.jl_store.proofs.SilentLemmas.{first_silent, miss_silent, found_silent, missed_silent}
+use Rattle.jl_store.proofs.DoneLemmas.{looked_done, found_done, missed_done}
 use Rattle.jl_store.proofs.Readiness.{waits_silent, found_home, missed_home}
 use Rattle.jl_store.proofs.LoneCalls.{LeavesAnswer, look_alone, look_hit, look_miss, stands_in, found_leaves, memory_leaves}
 use Rattle.jl_store.proofs.cached.answered.Goals as goal
@@ -258,8 +259,8 @@ returns-in-Miss-clause-tidy g c = λ t orderly.
     let front = orderly_sooner old mid new (first t) (second t) (root_of memory.location) orderly in
     missed_tidy path c.args.code.now c.args.args.now old mid new told first second f0 f1 f2 t c.missed.result _ _ _ c.missed.ensures.missed c.missed.ensures.faults (c.in-Miss.ensures.tidy t front.0 front.1).0
 
-pub returns-in-Hit-clause-silent : goal.returns-in-Hit-clause-silent
-returns-in-Hit-clause-silent g c = λ told n none.
+pub returns-in-Hit-clause-done : goal.returns-in-Hit-clause-done
+returns-in-Hit-clause-done g c = λ told n.
     let folder = g.F.Folder in
     let memory = c.args.memory.now in
     let name = c.args.name.now in
@@ -267,18 +268,20 @@ returns-in-Hit-clause-silent g c = λ told n none.
     let old = folder.history c.args.folder.now in
     let mid = folder.history c.look.new.folder in
     let new = folder.history c.found.new.folder in
+    let ws = c.args.warnings.now.items in
+    let ws1 = c.look.new.warnings.items in
+    let ws2 = c.found.new.warnings.items in
     let told' = c.look.ensures.told told in
     let first = goes_waits (folder.token c.args.folder.now) old mid (c.look.ensures.waits told) in
     let second = lawful_goes _ g.L.Library.answer _ mid new (c.found.ensures.lawful told' g.L.Library.answer) in
-    let Put = λ (k u : List ℕ). HasPut (entry_in memory name k) u Access (since mid new) in
-    found_silent a old mid new first second c.found.result c.in-Hit.value c.found.ensures.found
+    let Part = λ (k u : List ℕ). PartDone (HasPut (entry_in memory name k) u Access (since mid new)) ws1 ws2 in
+    found_done a old mid new first second c.found.result c.in-Hit.value ws ws1 ws2 c.found.ensures.found c.in-Hit.ensures.looks.0
     (λ is.
-    subst (λ (k : List ℕ). Put k a.token) c.requires.key
-    (subst (λ (u : List ℕ). Put c.args.key.now.0 u) (c.look.ensures.token ∙ c.requires.token)
-    (c.found.ensures.silent told' (none ∙ sym c.in-Hit.ensures.looks.0) is)))
+    subst (λ (k : List ℕ). Part k a.token) c.requires.key
+    (subst (λ (u : List ℕ). Part c.args.key.now.0 u) (c.look.ensures.token ∙ c.requires.token) (c.found.ensures.done told' is)))
 
-pub returns-in-Miss-clause-silent : goal.returns-in-Miss-clause-silent
-returns-in-Miss-clause-silent g c = λ told n none.
+pub returns-in-Miss-clause-done : goal.returns-in-Miss-clause-done
+returns-in-Miss-clause-done g c = λ told n.
     let folder = g.F.Folder in
     let name = c.args.name.now in
     let ps = c.args.args.now in
@@ -293,8 +296,6 @@ returns-in-Miss-clause-silent g c = λ told n none.
     let first = goes_waits (folder.token c.args.folder.now) old mid (c.look.ensures.waits told) in
     let second = lawful_goes _ g.L.Library.answer _ mid new (c.missed.ensures.lawful told') in
     let looks = c.in-Miss.ensures.looks in
-    let warns = c.missed.ensures.warns n in
-    let same = first_silent ws ws1 ws2 (warnings_for looks.0 name ps) warns.0 looks.1 warns.1 none in
-    missed_silent a old mid new first second c.missed.result
-    (miss_silent a (folder.told c.args.folder.now) (folder.faults c.args.folder.now) (folder.faults c.look.new.folder) (now old) (since old mid) ws ws1 looks same told)
-    (c.missed.ensures.silent told' n (none ∙ sym same))
+    missed_done a old mid new first second c.missed.result ws ws1 ws2 (warnings_for looks.0 name ps) looks.1
+    (looked_done a (folder.told c.args.folder.now) (folder.faults c.args.folder.now) (folder.faults c.look.new.folder) (now old) (since old mid) looks.0 looks.2 told)
+    (c.missed.ensures.done told' n)

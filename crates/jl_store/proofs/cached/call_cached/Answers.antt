@@ -1,4 +1,4 @@
-use Rattle.std.proofs.Common.{◌≡◌, ◌⊎◌, ⊎_elim, ◌∙◌, ℕ, List, refl, sym, subst}
+use Rattle.std.proofs.Common.{◌≡◌, ◌⊎◌, ⊎_elim, ◌∙◌, ℕ, List, [], refl, sym, subst, append-nil}
 use Rattle.jl_text.specs.Counts.{Rose}
 use Rattle.jl_folder.specs.State.{now, since}
 use Rattle.jl_entry.specs.Names.{root_of}
@@ -17,13 +17,13 @@ use Rattle.jl_store.specs.Next.{asked, ChecksAlone}
 use Rattle.jl_store.specs.Warned.{UsesCall, IsOrderly}
 use Rattle.jl_store.specs.Parts.{HasFunction, WarnsFrom, check_warns}
 use Rattle.jl_store.specs.Looking.{output_path}
-use Rattle.jl_store.specs.Silent.{HasAnswered}
+use Rattle.jl_store.specs.Done.{AnswersOrWarns}
 use Rattle.jl_store.proofs.Answering.{answer_under}
 use Rattle.jl_store.proofs.Lawfully.{lawful_none, lawful_of, lawful_then, lawful_at, lawful_goes, trusted_later}
 use Rattle.jl_store.proofs.Causing.{no_warnings, warns_then, warns_whole, orderly_later}
 use Rattle.jl_store.proofs.Coming.{comes_later, tidy_later}
 use Rattle.jl_store.proofs.PartWarnings.{check_warned}
-use Rattle.jl_store.proofs.SilentLemmas.{none_added, first_silent, checked_silent, all_done}
+use Rattle.jl_store.proofs.DoneLemmas.{checked_done, all_done}
 use Rattle.jl_store.proofs.Readiness.{checked_home, code_uses}
 use Rattle.jl_store.proofs.LoneMoves.{lone_untouched}
 use Rattle.jl_store.proofs.LoneCalls.{LeavesAnswer, lone_orderly, tidy_after, after_check, leaves_next, lone_warns, nothing_next}
@@ -301,8 +301,17 @@ returns-in-Ok-warn_of_check-clause-quiet g c = λ told lone sound rose.
     lone_warns (asked c.args.memory.now name code.0 n c.args.args.now) lib.answer (folder.token d) (folder.told d) (folder.faults d) (folder.faults c.answered.new.folder) (folder.history d) (folder.history c.answered.new.folder) c.args.warnings.now.items c.answered.new.warnings.items
     c.requires.token told (returns-in-Ok-warn_of_check-clause-warns g c code.0 n code.1 refl) (returns-in-Ok-warn_of_check-clause-lawful g c told) lone sound rose
 
-pub returns-in-Ok-warn_of_check-clause-silent : goal.returns-in-Ok-warn_of_check-clause-silent
-returns-in-Ok-warn_of_check-clause-silent g c = λ code n is line told none.
+pub returns-in_default-clause-done : goal.returns-in_default-clause-done
+returns-in_default-clause-done g c = λ code n is line told. ([], sym (append-nil c.args.warnings.now.items), tt)
+
+pub returns-in_default-digest-clause-done : goal.returns-in_default-digest-clause-done
+returns-in_default-digest-clause-done g c = λ code n is line told. ([], sym (append-nil c.args.warnings.now.items), tt)
+
+pub returns-clause-done : goal.returns-clause-done
+returns-clause-done g c = λ code n is line told. ([], c.in-Err.ensures.err ∙ sym (append-nil c.args.warnings.now.items), tt)
+
+pub returns-in-Ok-warn_of_check-clause-done : goal.returns-in-Ok-warn_of_check-clause-done
+returns-in-Ok-warn_of_check-clause-done g c = λ code n is line told.
     let folder = g.F.Folder in
     let lib = g.L.Library in
     let answer = lib.answer in
@@ -322,15 +331,13 @@ returns-in-Ok-warn_of_check-clause-silent g c = λ code n is line told none.
     let ws2 = c.answered.new.warnings.items in
     let check = c.check_code-check.result in
     let key = c.in-Ok-digest.key in
-    let added = check_warns check name key in
     let text = c.as_str-text.result.now in
     let told' = c.check_code-check.ensures.told told in
     let same : text ≡ code = c.as_str-text.ensures ∙ one_value (lib.code (lib.loaded c.args.lib.now) name) c.in-Ok.code.text code c.in-Ok.ensures.code is in
     let first : GoesOn old mid = lawful_goes root answer memory.token old mid (lawful_of root answer memory.token _ _ _ old mid (c.check_code-check.ensures.called told) (c.check_code-check.ensures.lawful told answer)) in
     let second : GoesOn mid new = lawful_goes root answer _ mid new (c.answered.ensures.lawful told') in
     let warns = c.answered.ensures.warns n in
-    let before : ws1 ≡ ws = first_silent ws ws1 ws2 added warns.0 c.in-Ok-warn_of_check.ensures.ok warns.1 none in
-    all_done a old mid new first second c.answered.result
-    (checked_silent a (now old) (since old mid) check key c.in-Ok-warn_of_check.ensures.memory (none_added ws ws1 added c.in-Ok-warn_of_check.ensures.ok before)
+    all_done a old mid new first second c.answered.result ws ws1 ws2 (check_warns check name key) warns.0 c.in-Ok-warn_of_check.ensures.ok warns.1
+    (checked_done a (now old) (since old mid) check key c.in-Ok-warn_of_check.ensures.memory
     (subst (λ (k : List ℕ). Checks check memory.token home last temp k (now old) (since old mid)) same (c.check_code-check.ensures.checks told)))
-    (subst (λ (k : List ℕ). HasAnswered c.answered.result (asked memory name k n ps) (now mid) (since mid new)) same (c.answered.ensures.silent told' n (none ∙ sym before)))
+    (subst (λ (k : List ℕ). AnswersOrWarns c.answered.result (asked memory name k n ps) (now mid) (since mid new) ws1 ws2) same (c.answered.ensures.done told' n))

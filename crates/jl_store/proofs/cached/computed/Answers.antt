@@ -3,14 +3,14 @@ use Rattle.jl_folder.specs.State.{since}
 use Rattle.jl_value.specs.Form.{tree_of}
 use Rattle.jl_value.specs.Key.{key_of}
 use Rattle.jl_claims.specs.Claims.{Anywhere}
-use Rattle.jl_store.specs.Keeping.{PutsEntry, IsKeeping, UsesEntry, entry_in, texts}
+use Rattle.jl_store.specs.Keeping.{PutsEntry, IsKeeping, UsesEntry, HasPutAll, entry_in, texts}
 use Rattle.jl_store.specs.Next.{asked}
 use Rattle.jl_store.specs.Parts.{HasFunction, keep_warns}
 use Rattle.jl_store.proofs.Lawfully.{lawful_none, lawful_by}
 use Rattle.jl_store.proofs.Truths.{is_entry, entry_true}
 use Rattle.jl_store.proofs.Causing.{warns_none}
 use Rattle.jl_store.proofs.PartWarnings.{keep_warned, keep_used}
-use Rattle.jl_store.proofs.SilentLemmas.{none_added, kept_silent}
+use Rattle.jl_store.proofs.DoneLemmas.{kept_done}
 use Rattle.jl_store.proofs.LoneMoves.{lone_untouched}
 use Rattle.jl_store.proofs.LoneCalls.{kept_alone}
 use Rattle.jl_store.proofs.cached.computed.Goals as goal
@@ -79,10 +79,17 @@ returns-in-Ok-warn_of-clause-alone g c = λ told lone ready rose is.
     (λ fault. rose (c.keep-kept.ensures.faults.failed fault)) in
     c.keep-kept.ensures.alone told kept lone
 
-pub returns-in-Ok-warn_of-clause-silent : goal.returns-in-Ok-warn_of-clause-silent
-returns-in-Ok-warn_of-clause-silent g c = λ told none is.
+pub returns-in-Ok-warn_of-clause-done : goal.returns-in-Ok-warn_of-clause-done
+returns-in-Ok-warn_of-clause-done g c = λ told is.
     let name = c.args.name.now in
     let key = c.in-Ok.key in
-    let kept = c.keep-kept.result in
-    let nothing = none_added c.args.warnings.now.items c.warn_of.new.warnings.items (keep_warns kept name key) c.in-Ok-warn_of.ensures.ok none in
-    (c.keep-kept.ensures.called told).kept (kept_silent kept name key c.in-Ok-warn_of.ensures.memory nothing)
+    let e = entry_in c.args.memory.now name (key_of c.args.args.now) in
+    let folder = g.F.Folder in
+    let token = folder.token c.args.folder.now in
+    let old = folder.history c.args.folder.now in
+    let new = folder.history c.keep-kept.new.folder in
+    let kept = c.keep-kept.result in (
+      keep_warns kept name key,
+      c.in-Ok-warn_of.ensures.ok,
+      kept_done (HasPutAll e token (since old new)) kept name key c.in-Ok-warn_of.ensures.memory (λ all. (c.keep-kept.ensures.called told).kept all),
+    )

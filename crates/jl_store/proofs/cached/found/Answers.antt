@@ -5,7 +5,7 @@ use Rattle.jl_entry.specs.declared.names.EntryFile.TheVariants.{Access}
 use Rattle.jl_claims.specs.Claims.{Anywhere}
 use Rattle.jl_laws.specs.Whole.{Answers}
 use Rattle.jl_store.specs.Kinds.{IsFor, PutsThis, UsesNames}
-use Rattle.jl_store.specs.Keeping.{Entry, KeepsFile, entry_in, file_of, last_of, temp_of, IsReadyToTouch}
+use Rattle.jl_store.specs.Keeping.{Entry, KeepsFile, HasPut, entry_in, file_of, last_of, temp_of, IsReadyToTouch}
 use Rattle.jl_store.specs.declared.answer.Keep.{Keep}
 use Rattle.jl_store.specs.Next.{asked}
 use Rattle.jl_store.specs.Parts.{HasFolder, keep_warns}
@@ -13,7 +13,7 @@ use Rattle.jl_store.proofs.Lawfully.{Lawfully, lawful_by}
 use Rattle.jl_store.proofs.Truths.{this_true, only_final, moment_true}
 use Rattle.jl_store.proofs.Causing.{warns_none}
 use Rattle.jl_store.proofs.PartWarnings.{keep_warned, touch_used}
-use Rattle.jl_store.proofs.SilentLemmas.{none_added, kept_silent}
+use Rattle.jl_store.proofs.DoneLemmas.{kept_done}
 use Rattle.jl_store.proofs.LoneMoves.{lone_untouched}
 use Rattle.jl_store.proofs.LoneCalls.{kept_alone}
 use Rattle.jl_store.proofs.cached.found.Goals as goal
@@ -68,10 +68,17 @@ returns-in-Ok-clause-alone g c = λ told lone ready rose is.
     (λ fault. rose (c.touch-kept.ensures.faults.failed fault)) in
     (c.now-moment.result, c.touch-kept.ensures.alone told kept lone, λ tells. c.now-moment.ensures.moment tells)
 
-pub returns-in-Ok-clause-silent : goal.returns-in-Ok-clause-silent
-returns-in-Ok-clause-silent g c = λ told none is.
+pub returns-in-Ok-clause-done : goal.returns-in-Ok-clause-done
+returns-in-Ok-clause-done g c = λ told is.
     let name = c.args.name.now in
     let key = c.args.key.now in
-    let kept = c.touch-kept.result in
-    let nothing = none_added c.args.warnings.now.items c.warn_of.new.warnings.items (keep_warns kept name key) c.in-Ok.ensures.ok none in
-    (c.touch-kept.ensures.called told).kept (kept_silent kept name key c.in-Ok.ensures.memory nothing)
+    let e = entry_in c.args.memory.now name key.0 in
+    let folder = g.F.Folder in
+    let token = folder.token c.args.folder.now in
+    let old = folder.history c.args.folder.now in
+    let new = folder.history c.touch-kept.new.folder in
+    let kept = c.touch-kept.result in (
+      keep_warns kept name key,
+      c.in-Ok.ensures.ok,
+      kept_done (HasPut e token Access (since old new)) kept name key c.in-Ok.ensures.memory (λ all. (c.touch-kept.ensures.called told).kept all),
+    )

@@ -6,12 +6,13 @@ use Rattle.jl_value.specs.Library.{outcome_of}
 use Rattle.jl_value.specs.Key.{key_of}
 use Rattle.jl_store.specs.Keeping.{HasEntry, HasPutAll, entry_in, texts}
 use Rattle.jl_store.specs.Next.{asked, entry_asked}
+use Rattle.jl_store.specs.Done.{PartDone}
 use Rattle.jl_store.specs.Parts.{HasFunction}
 use Rattle.jl_store.proofs.Answering.{within_value}
 use Rattle.jl_store.proofs.Lawfully.{lawful_none}
 use Rattle.jl_store.proofs.Causing.{warns_none}
 use Rattle.jl_store.proofs.LoneCalls.{computed_leaves, error_leaves, memory_leaves}
-use Rattle.jl_store.proofs.SilentLemmas.{computed_silent}
+use Rattle.jl_store.proofs.DoneLemmas.{nothing_told, computed_done}
 use Rattle.jl_store.proofs.cached.missed.Goals as goal
 
 pub computed-requires-clause-keepable : goal.computed-requires-clause-keepable
@@ -81,10 +82,15 @@ returns-in-NoMemory-clause-alone g c = λ told n lone ready rose stands.
     let s = now (g.F.Folder.history c.args.folder.now) in
     memory_leaves (asked c.args.memory.now c.args.name.now c.args.code.now n c.args.args.now) s s (g.H.Host.told c.args.host.now) (g.H.Host.moments c.args.host.now)
 
-pub returns-in-Done-Value-clause-silent : goal.returns-in-Done-Value-clause-silent
-returns-in-Done-Value-clause-silent g c = λ told n none.
+pub returns-in-Done-Value-clause-done : goal.returns-in-Done-Value-clause-done
+returns-in-Done-Value-clause-done g c = λ told n.
     let folder = g.F.Folder in
     let a = asked c.args.memory.now c.args.name.now c.args.code.now n c.args.args.now in
     let moves = since (folder.history c.args.folder.now) (folder.history c.computed.new.folder) in
-    computed_silent a moves c.computed.result c.in-Done-Value.value c.computed.ensures.computed
-    (λ is. subst (λ (u : List ℕ). HasPutAll (entry_asked a) u moves) c.requires.token (c.computed.ensures.silent told none is))
+    let ws = c.args.warnings.now.items in
+    let ws' = c.computed.new.warnings.items in
+    computed_done a moves c.computed.result c.in-Done-Value.value ws ws' c.computed.ensures.computed
+    (λ is. subst (λ (u : List ℕ). PartDone (HasPutAll (entry_asked a) u moves) ws ws') c.requires.token (c.computed.ensures.done told is))
+
+pub returns-in-Done-Error-clause-done : goal.returns-in-Done-Error-clause-done
+returns-in-Done-Error-clause-done g c = λ told n. nothing_told _ c.args.warnings.now.items c.args.warnings.now.items refl tt
