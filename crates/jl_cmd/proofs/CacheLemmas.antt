@@ -65,19 +65,19 @@ runs_nothing (Some (reduce_size location limits)) answer tells input token h = r
 runs_nothing (Some tracker) answer tells input token h = runs_no_lines answer tells input token h
 
 -- where others keep their rules and this run its own, the cache may be trusted
-pub trusting : (s : Command) (answer : Answers) (told tells : Type 0) (input token : List ℕ) (old new : History) → OthersAreLawful s answer told tells token old new → RunsLawfully (Some s) answer tells input token old new → TrustsCache s answer told tells old new
+pub trusting : (s : Command) (answer : Answers) (told tells : Type 0) (input token : List ℕ) (old new : History) → OthersAreLawful s answer told tells token old new → (told → RunsLawfully (Some s) answer tells input token old new) → TrustsCache s answer told tells old new
 unfolding LawfulThroughout
 trusting (call file location name args) answer told tells input token old new theirs mine =
-    (theirs.told, theirs.sound, with_others (IsLawful (root_of location) answer) token (now old) (since old new) (λ t. same_token t token) (mine.own theirs.sound) theirs.others)
+    (theirs.told, theirs.sound, with_others (IsLawful (root_of location) answer) token (now old) (since old new) (λ t. same_token t token) ((mine theirs.told).own theirs.sound) theirs.others)
 trusting (hash args) answer told tells input token old new theirs mine = tt
 trusting (clear location m f key) answer told tells input token old new theirs mine = tt
 trusting (reduce_size location limits) answer told tells input token old new theirs mine = tt
 trusting tracker answer told tells input token old new theirs mine = theirs.input
 
-pub trusting_given : (given : Option Command) (s : Command) (answer : Answers) (told tells : Type 0) (input token : List ℕ) (old new : History) → given ≡ Some s → OthersAreLawful s answer told tells token old new → RunsLawfully given answer tells input token old new → GivenTrusts given answer told tells old new
+pub trusting_given : (given : Option Command) (s : Command) (answer : Answers) (told tells : Type 0) (input token : List ℕ) (old new : History) → given ≡ Some s → OthersAreLawful s answer told tells token old new → (told → RunsLawfully given answer tells input token old new) → GivenTrusts given answer told tells old new
 trusting_given given s answer told tells input token old new is theirs mine =
     subst (λ (g : Option Command). GivenTrusts g answer told tells old new) (sym is)
-    (trusting s answer told tells input token old new theirs (subst (λ (g : Option Command). RunsLawfully g answer tells input token old new) is mine))
+    (trusting s answer told tells input token old new theirs (λ t. subst (λ (g : Option Command). RunsLawfully g answer tells input token old new) is (mine t)))
 
 -- ---- the module file of a command
 

@@ -11,7 +11,8 @@ use Rattle.jl_cmd.specs.Commands.{Command}
 use Rattle.jl_cmd.specs.declared.ended.Ended.{Ended}
 use Rattle.jl_cmd.specs.declared.ended.Ended.TheVariants.{Done, Failed, Usage, Refused, ReadFault, WriteFault, NoMemory, NoModule, FolderFault}
 use Rattle.jl_cmd.specs.Output.{Output, module_of, AreReading}
-use Rattle.jl_cmd.specs.Endings.{Scene, Tells, ReadsModule, LacksModule, Finishes, CommandEnds, RunEnds, status_of, last_text}
+use Rattle.jl_cmd.specs.Caches.{FolderTells}
+use Rattle.jl_cmd.specs.Endings.{Scene, Tells, ReadsModule, LacksModule, LacksTold, Finishes, CommandEnds, RunEnds, status_of, last_text}
 use Rattle.jl_cmd.specs.Promises.{IsWhole, IsSilent, IsStatus, Answers, AnswersFront, CountsCalls, IsValid, IsFaultless, IsComplete, text_of_status}
 use Rattle.jl_cmd.specs.Commands.{call, hash, clear as clears, reduce_size, tracker}
 use Rattle.jl_cmd.specs.declared.computed.Computed.{Computed}
@@ -57,19 +58,35 @@ none_of_four n a b c d na nb nc nd h = elim h [ inl e ↦ na e | inr h' ↦ none
 pub none_of_five : (n a b c d e : ℕ) → (n ≡ a → ⊥) → (n ≡ b → ⊥) → (n ≡ c → ⊥) → (n ≡ d → ⊥) → (n ≡ e → ⊥) → (n ≡ a) ⊎ ((n ≡ b) ⊎ ((n ≡ c) ⊎ ((n ≡ d) ⊎ (n ≡ e)))) → ⊥
 none_of_five n a b c d e na nb nc nd ne h = elim h [ inl p ↦ na p | inr h' ↦ none_of_four n b c d e nb nc nd ne h' ]
 
+-- what a folder shows of the module that a command reads
+module_read : (s : Command) (F : Type 0) (m : List ℕ) (x : Scene) → FolderTells s F → (F → ReadsModule (module_of s) m x) → ReadsModule (module_of s) m x
+module_read (call file location name args) F m x told h = h told
+module_read (hash args) F m x told h = tt
+module_read (clears location m' f key) F m x told h = tt
+module_read (reduce_size location limits) F m x told h = tt
+module_read tracker F m x told h = tt
+
+-- and of one that it lacks
+module_lacked : (s : Command) (F : Type 0) (x : Scene) → FolderTells s F → LacksTold (module_of s) F x → LacksModule (module_of s) x
+module_lacked (call file location name args) F x told h = h told
+module_lacked (hash args) F x told h = h
+module_lacked (clears location m f key) F x told h = h
+module_lacked (reduce_size location limits) F x told h = h
+module_lacked tracker F x told h = h
+
 -- at a whole output the module's own output stands
-pub answers_whole : (output : Command → List ℕ → Output) (given : Option Command) (T : Tells) (E : Type 0) (x : Scene) (Said : List ℕ → Type 0) (errors errors' : List ℕ) (e : Ended) (s : Command) → given ≡ Some s → RunEnds output given T x e → T.cache → T.folder → (E → (said : List ℕ) × Said said × (errors' ≡ errors ++ (said ++ last_text e))) → IsWhole (status_of e) → Answers (output s) (module_of s) (λ _. ⊤) T.out E x Said errors errors' (status_of e)
+pub answers_whole : (output : Command → List ℕ → Output) (given : Option Command) (T : Tells) (E : Type 0) (x : Scene) (Said : List ℕ → Type 0) (errors errors' : List ℕ) (e : Ended) (s : Command) → given ≡ Some s → RunEnds output given T x e → T.cache → FolderTells s T.folder → (E → (said : List ℕ) × Said said × (errors' ≡ errors ++ (said ++ last_text e))) → IsWhole (status_of e) → Answers (output s) (module_of s) (λ _. ⊤) T.out E x Said errors errors' (status_of e)
 answers_whole output given T E x Said errors errors' Done s is ends cache told said whole =
     let h = given_ends output given T x Done s is ends in
     let k = h.2 cache in
-    record { bytes = h.0; reads = h.1 told; made = tt; status = k.0; written = k.2; text = λ c. let s = said c in (s.0, s.1, s.2 ∙ ap (λ t. errors ++ (s.0 ++ t)) (sym k.1)) }
+    record { bytes = h.0; reads = module_read s T.folder h.0 x told h.1; made = tt; status = k.0; written = k.2; text = λ c. let s = said c in (s.0, s.1, s.2 ∙ ap (λ t. errors ++ (s.0 ++ t)) (sym k.1)) }
 answers_whole output given T E x Said errors errors' (Failed t) s is ends cache told said whole =
     let h = given_ends output given T x (Failed t) s is ends in
-    record { bytes = h.0; reads = h.1 told; made = tt; status = ap (λ o. o.status) h.2.0; written = λ o. h.2.1 o ∙ sym (append-nil _) ∙ ap (λ b. x.written ++ b) (sym (ap (λ o. o.bytes) h.2.0)); text = λ c. let s = said c in (s.0, s.1, s.2 ∙ ap (λ b. errors ++ (s.0 ++ b)) (sym (ap (λ o. o.text) h.2.0))) }
+    record { bytes = h.0; reads = module_read s T.folder h.0 x told h.1; made = tt; status = ap (λ o. o.status) h.2.0; written = λ o. h.2.1 o ∙ sym (append-nil _) ∙ ap (λ b. x.written ++ b) (sym (ap (λ o. o.bytes) h.2.0)); text = λ c. let s = said c in (s.0, s.1, s.2 ∙ ap (λ b. errors ++ (s.0 ++ b)) (sym (ap (λ o. o.text) h.2.0))) }
 answers_whole output given T E x Said errors errors' (Refused t) s is ends cache told said whole =
     let h = given_ends output given T x (Refused t) s is ends in
     let o_is = h.2.0 cache in
-    record { bytes = h.0; reads = h.1 told; made = tt; status = ap (λ o. o.status) o_is; written = λ o. h.2.1 o ∙ sym (append-nil _) ∙ ap (λ b. x.written ++ b) (sym (ap (λ o. o.bytes) o_is)); text = λ c. let s = said c in (s.0, s.1, s.2 ∙ ap (λ b. errors ++ (s.0 ++ b)) (sym (ap (λ o. o.text) o_is))) }
+    record { bytes = h.0; reads = module_read s T.folder h.0 x told h.1; made = tt; status = ap (λ o. o.status) o_is; written = λ o. h.2.1 o ∙ sym (append-nil _) ∙ ap (λ b. x.written ++ b) (sym (ap (λ o. o.bytes) o_is)); text = λ c. let s = said c in (s.0, s.1, s.2 ∙ ap (λ b. errors ++ (s.0 ++ b)) (sym (ap (λ o. o.text) o_is))) }
 answers_whole output given T E x Said errors errors' Usage s is ends cache told said whole = absurd (none_of_three 2 0 1 3 (λ e. omega arith) (λ e. omega arith) (λ e. omega arith) whole)
 answers_whole output given T E x Said errors errors' ReadFault s is ends cache told said whole = absurd (none_of_three 5 0 1 3 (λ e. omega arith) (λ e. omega arith) (λ e. omega arith) whole)
 answers_whole output given T E x Said errors errors' WriteFault s is ends cache told said whole = absurd (none_of_three 6 0 1 3 (λ e. omega arith) (λ e. omega arith) (λ e. omega arith) whole)
@@ -78,11 +95,11 @@ answers_whole output given T E x Said errors errors' NoModule s is ends cache to
 answers_whole output given T E x Said errors errors' FolderFault s is ends cache told said whole = absurd (none_of_three 10 0 1 3 (λ e. omega arith) (λ e. omega arith) (λ e. omega arith) whole)
 
 -- at a write fault a front of it does
-pub answers_front : (output : Command → List ℕ → Output) (given : Option Command) (T : Tells) (x : Scene) (e : Ended) (s : Command) → given ≡ Some s → RunEnds output given T x e → T.cache → T.folder → status_of e ≡ 6 → AnswersFront (output s) (module_of s) (λ _. ⊤) T.out x
+pub answers_front : (output : Command → List ℕ → Output) (given : Option Command) (T : Tells) (x : Scene) (e : Ended) (s : Command) → given ≡ Some s → RunEnds output given T x e → T.cache → FolderTells s T.folder → status_of e ≡ 6 → AnswersFront (output s) (module_of s) (λ _. ⊤) T.out x
 answers_front output given T x WriteFault s is ends cache told n =
     let h = given_ends output given T x WriteFault s is ends in
     let k = h.2.1 cache in
-    record { bytes = h.0; reads = h.1 told; made = tt; status = k.0; front = k.1 }
+    record { bytes = h.0; reads = module_read s T.folder h.0 x told h.1; made = tt; status = k.0; front = k.1 }
 answers_front output given T x Done s is ends cache told n = absurd (omega arith)
 answers_front output given T x (Failed t) s is ends cache told n = absurd (omega arith)
 answers_front output given T x (Refused t) s is ends cache told n = absurd (omega arith)
@@ -137,7 +154,7 @@ pub usage_there : (output : Command → List ℕ → Output) (given : Option Com
 usage_there output given T x e ends none = usage_there_none output T x e (subst (λ (g : Option Command). RunEnds output g T x e) none ends)
 
 -- a missing module is told only where a state of the run had no file there
-pub no_module_seen : (output : Command → List ℕ → Output) (given : Option Command) (T : Tells) (x : Scene) (e : Ended) (s : Command) → given ≡ Some s → RunEnds output given T x e → status_of e ≡ 9 → T.folder → LacksModule (module_of s) x
+pub no_module_seen : (output : Command → List ℕ → Output) (given : Option Command) (T : Tells) (x : Scene) (e : Ended) (s : Command) → given ≡ Some s → RunEnds output given T x e → status_of e ≡ 9 → LacksTold (module_of s) T.folder x
 no_module_seen output given T x NoModule s is ends n =
     let h = given_ends output given T x NoModule s is ends in h.0
 no_module_seen output given T x Done s is ends n = absurd (omega arith)
@@ -215,7 +232,7 @@ text_at e n at h =
     text_there e (subst (λ (k : ℕ). IsSilent k ⊎ (k ≡ 6)) at h) ∙ ap text_of_status (sym at)
 
 -- where nothing is refused and nothing failed, the run is complete
-pub completes : (output : Command → List ℕ → Output) (given : Option Command) (T : Tells) (x : Scene) (e : Ended) (s : Command) (n : ℕ) → n ≡ status_of e → given ≡ Some s → RunEnds output given T x e → T.cache → T.folder → IsValid (output s) (module_of s) x → IsFaultless x → IsComplete n
+pub completes : (output : Command → List ℕ → Output) (given : Option Command) (T : Tells) (x : Scene) (e : Ended) (s : Command) (n : ℕ) → n ≡ status_of e → given ≡ Some s → RunEnds output given T x e → T.cache → FolderTells s T.folder → IsValid (output s) (module_of s) x → IsFaultless x → IsComplete n
 completes output given T x e s n at is ends cache told valid clear =
     subst IsComplete (sym at) (go e (given_ends output given T x e s is ends))
   where
@@ -223,11 +240,11 @@ completes output given T x e s n at is ends cache told valid clear =
     go Done ends = inl refl
     go (Failed t) ends = inr (inl refl)
     go NoMemory ends = inr (inr refl)
-    go (Refused t) ends = absurd (valid.taken ends.0 (ends.1 told) (ap (λ o. o.status) (ends.2.0 cache)))
+    go (Refused t) ends = absurd (valid.taken ends.0 (module_read s T.folder ends.0 x told ends.1) (ap (λ o. o.status) (ends.2.0 cache)))
     go Usage ends = absurd (some_not_none (Some s) s refl ends.0)
     go ReadFault ends = absurd (clear.input ends.1)
     go WriteFault ends = absurd (clear.out ends.2.0)
-    go NoModule ends = absurd (valid.there (ends.0 told))
+    go NoModule ends = absurd (valid.there (module_lacked s T.folder x told ends.0))
     go FolderFault ends = absurd (clear.folder ends.0)
 
 -- how often the library was called
@@ -281,7 +298,7 @@ wrote_clear Wrote bytes w w' T R h fails told clear = h told
 wrote_clear Fault bytes w w' T R h fails told clear = absurd (clear (fails refl))
 
 -- the same at a number that is the status
-pub answers_at : (output : Command → List ℕ → Output) (given : Option Command) (T : Tells) (E : Type 0) (x : Scene) (Said : List ℕ → Type 0) (errors errors' : List ℕ) (e : Ended) (s : Command) (n : ℕ) → n ≡ status_of e → given ≡ Some s → RunEnds output given T x e → T.cache → T.folder → (E → (said : List ℕ) × Said said × (errors' ≡ errors ++ (said ++ last_text e))) → IsWhole n → Answers (output s) (module_of s) (λ _. ⊤) T.out E x Said errors errors' n
+pub answers_at : (output : Command → List ℕ → Output) (given : Option Command) (T : Tells) (E : Type 0) (x : Scene) (Said : List ℕ → Type 0) (errors errors' : List ℕ) (e : Ended) (s : Command) (n : ℕ) → n ≡ status_of e → given ≡ Some s → RunEnds output given T x e → T.cache → FolderTells s T.folder → (E → (said : List ℕ) × Said said × (errors' ≡ errors ++ (said ++ last_text e))) → IsWhole n → Answers (output s) (module_of s) (λ _. ⊤) T.out E x Said errors errors' n
 answers_at output given T E x Said errors errors' e s n at is ends cache told said whole =
     subst (λ (k : ℕ). Answers (output s) (module_of s) (λ _. ⊤) T.out E x Said errors errors' k) (sym at)
     (answers_whole output given T E x Said errors errors' e s is ends cache told said (subst (λ (k : ℕ). IsWhole k) at whole))

@@ -58,6 +58,14 @@ OthersKeep (clear location m f key) answer token old new = ⊤
 OthersKeep (reduce_size location limits) answer token old new = ⊤
 OthersKeep tracker answer token old new = ⊤
 
+-- the folder tells, if the command reads a module's file in it
+abbrev pub FolderTells : Command → (tells : Type 0) → Type 0
+FolderTells (call file location name args) tells = tells
+FolderTells (hash args) tells = ⊤
+FolderTells (clear location m f key) tells = ⊤
+FolderTells (reduce_size location limits) tells = ⊤
+FolderTells tracker tells = ⊤
+
 -- the input tells, if the command reads it
 abbrev pub InputTells : Command → (input_tells : Type 0) → Type 0
 InputTells (call file location name args) input_tells = ⊤
@@ -66,9 +74,9 @@ InputTells (clear location m f key) input_tells = ⊤
 InputTells (reduce_size location limits) input_tells = ⊤
 InputTells tracker input_tells = input_tells
 
--- the folder tells, and the input, if the command reads it; the cache folder was sound, and each other run's moves were lawful wherever all moves before them were
+-- the folder tells and the input tells, if the command reads them; the cache folder was sound, and each other run's moves were lawful wherever all moves before them were
 pub record OthersAreLawful (given : Command) (answer : Answers) (tells input_tells : Type 0) (token : List ℕ) (old new : History) : Type 0 where
-  pub told : tells
+  pub told : FolderTells given tells
   pub input : InputTells given input_tells
   pub sound : SoundCache given answer old
   pub others : OthersKeep given answer token old new

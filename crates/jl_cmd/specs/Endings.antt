@@ -83,6 +83,11 @@ abbrev pub LacksModule : Option PathView → Scene → Type 0
 LacksModule None x = ⊥
 LacksModule (Some path) x = AtSome x.state x.steps (λ s. is_file s path ≡ false)
 
+-- there is a module's file to lack, and where the folder tells, some state lacked it
+abbrev pub LacksTold : Option PathView → (tells : Type 0) → Scene → Type 0
+LacksTold None tells x = ⊥
+LacksTold (Some path) tells x = tells → LacksModule (Some path) x
+
 -- the output that was computed was written so
 abbrev pub Finishes : Output → Tells → Scene → Ended → Type 0
 Finishes o T x Done = T.cache → (o.status ≡ status.done) × (o.text ≡ []) × (T.out → x.written' ≡ x.written ++ o.bytes)
@@ -106,7 +111,7 @@ CommandEnds output path T x (Failed t) = FinishesModule output path T x (Failed 
 CommandEnds output path T x (Refused t) = FinishesModule output path T x (Refused t)
 CommandEnds output path T x WriteFault = FinishesModule output path T x WriteFault
 CommandEnds output path T x NoMemory = T.out → x.written' ≡ x.written
-CommandEnds output path T x NoModule = (T.folder → LacksModule path x) × (T.out → x.written' ≡ x.written)
+CommandEnds output path T x NoModule = LacksTold path T.folder x × (T.out → x.written' ≡ x.written)
 CommandEnds output path T x FolderFault = Rose x.folder_faults x.folder_faults' × (T.out → x.written' ≡ x.written)
 CommandEnds output path T x Usage = ⊥
 CommandEnds output path T x ReadFault = ⊥

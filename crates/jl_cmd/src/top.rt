@@ -9,7 +9,7 @@ ghost use Rattle.jl_cmd.specs.Output.{module_of, output_of, AreReading};
 ghost use Rattle.jl_cmd.specs.Caches.{GivenTrusts, GivenHasModule, OthersAreLawful, RunsLawfully};
 ghost use Rattle.jl_tracker.specs.Plays.{stage};
 ghost use Rattle.jl_cmd.specs.declared.ended.Ended.TheVariants.{Done};
-ghost use Rattle.jl_cmd.specs.Endings.{RunEnds, LacksModule, scene_of, tells, status_of, last_text};
+ghost use Rattle.jl_cmd.specs.Endings.{RunEnds, LacksTold, scene_of, tells, status_of, last_text};
 ghost use Rattle.jl_cmd.specs.Following.{GivenFollows, GivenTracks};
 ghost use Rattle.jl_cmd.specs.Clears.{GivenClears};
 ghost use Rattle.jl_cmd.specs.Reports.{GivenReduces, MadeBy, IsMomentOf};
@@ -252,8 +252,8 @@ pub fn run<L: Library, F: Folder, S: Source, O: Sink, E: Sink, H: Host>(
     ensures statuses { IsStatus result }
     ensures usage { given_by words.now (H.processors host.old) ≡ None → (result ≡ 2) ⊎ (result ≡ 8) }
     ensures usage_only { result ≡ 2 → given_by words.now (H.processors host.old) ≡ None }
-    ensures no_module { (s : Command) → given_by words.now (H.processors host.old) ≡ Some s → result ≡ 9 → F.told folder.old
-        → LacksModule (module_of s)
+    ensures no_module { (s : Command) → given_by words.now (H.processors host.old) ≡ Some s → result ≡ 9
+        → LacksTold (module_of s) (F.told folder.old)
         (scene_of F.history F.faults folder.old folder.new O.written O.faults out.old out.new S.faults input.old input.new) }
     ensures read_fault { result ≡ 5 → AreReading (given_by words.now (H.processors host.old))
         × Rose (S.faults input.old) (S.faults input.new) }

@@ -21,7 +21,7 @@ returns-clause-output g c = λ s is whole theirs.
     let folder = g.F.Folder in
     let w : Course = course g.L.Library.code g.L.Library.line (folder.told c.args.folder.now) (folder.token c.args.folder.now) (folder.history c.args.folder.now) (folder.history c.command-warned.new.folder) (folder.faults c.args.folder.now) (folder.faults c.command-warned.new.folder) in
     let E = g.E.Sink in
-    let trust = trusting_given _ s _ _ _ _ _ _ _ is theirs (c.command-warned.ensures.lawful theirs.told) in
+    let trust = trusting_given _ s _ _ _ _ _ _ _ is theirs c.command-warned.ensures.lawful in
     let errors = E.written c.args.err.now in
     let errors' = E.written c.report.new.err in
     let last = last_text c.command-warned.result.ended in
@@ -64,7 +64,7 @@ returns-clause-idle g c = λ told stopped.
 
 pub returns-clause-complete : goal.returns-clause-complete
 returns-clause-complete g c = λ s is theirs valid clear.
-    let trust = trusting_given _ s _ _ _ _ _ _ _ is theirs (c.command-warned.ensures.lawful theirs.told) in
+    let trust = trusting_given _ s _ _ _ _ _ _ _ is theirs c.command-warned.ensures.lawful in
     completes _ _ _ _ _ s _ c.status.ensures is c.command-warned.ensures.ends trust theirs.told valid clear
 
 pub returns-clause-tracks : goal.returns-clause-tracks
@@ -76,7 +76,7 @@ returns-clause-read_fault g c = λ n. read_fault_rose _ _ _ _ _ c.command-warned
 
 pub returns-clause-write_fault : goal.returns-clause-write_fault
 returns-clause-write_fault g c = λ s is six theirs.
-    let trust = trusting_given _ s _ _ _ _ _ _ _ is theirs (c.command-warned.ensures.lawful theirs.told) in
+    let trust = trusting_given _ s _ _ _ _ _ _ _ is theirs c.command-warned.ensures.lawful in
     let lib = g.L.Library in
     let host = g.H.Host in
     front_made lib.code lib.fault lib.answer (g.S.Source.left c.args.input.now) s (λ n. host.told c.args.host.now → n ≡ moment_of (host.moments c.args.host.now)) _ _ _ _ _ _ c.status.result six
