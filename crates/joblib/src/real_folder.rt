@@ -1,5 +1,6 @@
 // The folder of the system's files, each open one under a number.
-ghost use Rattle.std.specs.Prelude.{◌≡◌, ◌≢◌, ◌⊎◌, ◌≤◌, ◌<◌, ◌^◌, ℕ, ◌++◌, [], ◌∷◌, true, false, length, IfOk, MatchOption, None, OnOk, OnErr, IsTrue, All};
+ghost use Rattle.std.specs.Prelude.{◌≡◌, ◌≢◌, ◌⊎◌, ◌≤◌, ◌<◌, ◌^◌, ℕ, ◌++◌, [], ◌∷◌, true, false, length, IfOk, IfErr, MatchOption, None, OnOk, OnErr, IsTrue, All};
+ghost use Rattle.std.specs.IoError.{error_kind};
 ghost use Rattle.jl_text.specs.Paths.{is_part, is_fixed};
 ghost use Rattle.jl_folder.specs.State.{Opens, put_open, closed};
 ghost use Rattle.jl_folder.specs.OpenTable.{opens_of};
@@ -416,6 +417,7 @@ fn kind_of(kind: io::Result<fs::FileType>) -> io::Result<Option<bool>>
 fn part_of(alloc: Global, name: &str) -> io::Result<Text>
     ensures part { IfOk result (λ part. IsTrue (is_part part)) }
     ensures same { IfOk result (λ part. part ≡ name.now) }
+    ensures no_part { IfErr result (λ e. (is_part name.now ≡ false) ⊎ (error_kind e ≡ OutOfMemory)) }
 {
     if !is_part(name) {
         return Err(io::Error::from(ErrorKind::InvalidData));
