@@ -1,7 +1,11 @@
--- Why nothing is run.
-use Rattle.std.specs.Prelude.{ℕ, List, codes}
+-- Why nothing is run, and what a run of the program's words says of them.
+use Rattle.std.specs.Prelude.{◌≡◌, ◌⊎◌, ◌++◌, ℕ, List, Option, Some, None, codes}
+use Rattle.jl_cmd.specs.Commands.{given_of, hash}
+use Rattle.jl_cmd.specs.Output.{Output, hash_output}
+use Rattle.jl_cmd.specs.Promises.{IsWhole}
 use Rattle.jl_cmd.specs.Statuses as status
 use Rattle.jl_cmd.specs.Texts.{error_line}
+use Rattle.joblib.specs.Tokens.{FirstGives, own_of}
 use Rattle.joblib.specs.declared.start.StartFault.{StartFault}
 use Rattle.joblib.specs.declared.start.StartFault.TheVariants.{Usage, Memory}
 
@@ -14,3 +18,18 @@ fault_status Memory = status.no_memory
 abbrev pub fault_text : StartFault → List ℕ
 fault_text Usage = error_line (codes "usage")
 fault_text Memory = error_line (codes "out of memory")
+
+-- an output was put out whole: its status, its bytes behind what was written, and its text behind what was told
+pub record PutsOut (n : ℕ) (out_tells err_clear : Type 0) (written written' errors errors' : List ℕ) (o : Output) : Type 0 where
+  pub status : o.status ≡ n
+  pub bytes : out_tells → written' ≡ written ++ o.bytes
+  pub text : err_clear → errors' ≡ errors ++ o.text
+
+-- what a run of the program's words makes of them: without the word that gave its token, they are wrong usage just where they give no command,
+-- unless memory is short; and where they ask for a hash, that of their arguments is put out
+pub record RunsWords (words : List (List ℕ)) (processors : ℕ) (Puts : Output → Type 0) (n : ℕ) : Type 0 where
+  pub token : Option (List ℕ)
+  pub given : FirstGives words token
+  pub usage : given_of (own_of token words) processors ≡ None → (n ≡ status.usage) ⊎ (n ≡ status.no_memory)
+  pub usage_only : n ≡ status.usage → given_of (own_of token words) processors ≡ None
+  pub hashes : (args : List ℕ) → given_of (own_of token words) processors ≡ Some (hash args) → IsWhole n → Puts (hash_output args)

@@ -1,5 +1,5 @@
 -- The token of a run: what a first word gives, else the environment, else the moment.
-use Rattle.std.specs.Prelude.{◌≡◌, ℕ, List, ◌∷◌, ◌++◌, Option, None, Some, IsTrue, codes, false, ◌&&◌, nat_le, length, if◌then◌else◌}
+use Rattle.std.specs.Prelude.{◌≡◌, ℕ, List, [], ◌∷◌, drop, ◌++◌, Option, None, Some, IsTrue, codes, false, ◌&&◌, nat_le, length, if◌then◌else◌}
 use Rattle.std.specs.Fmt.{digits}
 use Rattle.jl_text.specs.Texts.{is_token}
 
@@ -12,9 +12,20 @@ pub record GivesToken (word token : List ℕ) : Type 0 where
   pub flag : word ≡ token_flag ++ token
   pub form : IsTrue (is_token token)
 
--- the word gives none
-abbrev pub GivesNone : List ℕ → Type 0
-GivesNone word = (token : List ℕ) → GivesToken word token → ⊥
+-- what a word gives: this token, or none
+abbrev pub Gives : List ℕ → Option (List ℕ) → Type 0
+Gives word (Some token) = GivesToken word token
+Gives word None = (token : List ℕ) → GivesToken word token → ⊥
+
+-- what the first of a program's words gives
+abbrev pub FirstGives : List (List ℕ) → Option (List ℕ) → Type 0
+FirstGives [] given = given ≡ None
+FirstGives (word ∷ rest) given = Gives word given
+
+-- the words that are left for a run, where its first gave this token
+abbrev pub own_of : Option (List ℕ) → List (List ℕ) → List (List ℕ)
+own_of None words = words
+own_of (Some token) words = drop 1 words
 
 -- `t` and the moment, in lower-case hexadecimal
 abbrev pub moment_token : ℕ → List ℕ

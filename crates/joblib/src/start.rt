@@ -1,8 +1,9 @@
 // From the words and the environment to a run.
-ghost use Rattle.std.specs.Prelude.{◌≡◌, ◌≤◌, ℕ, List, [], ◌∷◌, Some, None, IfOk, map, string_bytes};
-ghost use Rattle.joblib.specs.Tokens.{GivesToken, GivesNone, IsTokenOf};
-ghost use Rattle.jl_cmd.specs.Promises.{IsSilent, IsStatus};
-ghost use Rattle.joblib.specs.Starts.{fault_status, fault_text};
+ghost use Rattle.std.specs.Prelude.{◌≡◌, ◌⊎◌, ◌≤◌, ◌++◌, ℕ, List, IfOk, IfErr, map, string_bytes};
+ghost use Rattle.jl_text.specs.Counts.{Rose};
+ghost use Rattle.joblib.specs.Tokens.{FirstGives, IsTokenOf};
+ghost use Rattle.jl_cmd.specs.Promises.{IsSilent, IsStatus, text_of_status};
+ghost use Rattle.joblib.specs.Starts.{PutsOut, RunsWords, fault_status, fault_text};
 
 use crate::real_folder::RealFolder;
 use crate::real_host::{RealHost, moment_of};
@@ -78,9 +79,7 @@ fn variable_of<R: Env + AllocGlobal>(rt: &R) -> Result<Option<String>, AllocErro
 
 // The token that the first word gives.
 fn first_token<R: AllocGlobal>(rt: &R, words: &[String]) -> Result<Option<Token>, AllocError>
-    ensures given { (w : List ℕ) (rest : List (List ℕ)) (t : List ℕ) → map string_bytes words.now ≡ w ∷ rest → GivesToken w t → IfOk result (λ token. token ≡ Some t) }
-    ensures none { (w : List ℕ) (rest : List (List ℕ)) → map string_bytes words.now ≡ w ∷ rest → GivesNone w → IfOk result (λ token. token ≡ None) }
-    ensures nothing { map string_bytes words.now ≡ [] → IfOk result (λ token. token ≡ None) }
+    ensures { IfOk result (λ token. FirstGives (map string_bytes words.now) token) }
 {
     match words.first() {
         Some(word) => given_token(rt.alloc(), word.as_str()),
@@ -116,7 +115,17 @@ where
     E: Sink,
     requires least { 1 ≤ processors }
     requires most { processors ≤ 1024 }
+    ensures words { IfOk result (λ n. RunsWords (map string_bytes words.now) processors
+        (PutsOut n (O.told out.old) (E.told err.old × (Rose (E.faults err.old) (E.faults err.new) → ⊥)) (O.written out.old) (O.written out.new)
+        (E.written err.old) (E.written err.new)) n) }
     ensures status { IfOk result (λ n. IsStatus n) }
+    ensures nothing { IfOk result (λ n. IsSilent n → O.told out.old → O.written out.new ≡ O.written out.old) }
+    ensures write_fault { IfOk result (λ n. n ≡ 6 → Rose (O.faults out.old) (O.faults out.new)) }
+    ensures usage_text { IfOk result (λ n. n ≡ 2 → E.told err.old → (Rose (E.faults err.old) (E.faults err.new) → ⊥)
+        → E.written err.new ≡ E.written err.old ++ text_of_status n) }
+    ensures text { IfOk result (λ n. IsSilent n ⊎ (n ≡ 6) → E.told err.old → (Rose (E.faults err.old) (E.faults err.new) → ⊥)
+        → (said : List ℕ) × (E.written err.new ≡ E.written err.old ++ (said ++ text_of_status n))) }
+    ensures not_run { IfErr result (λ e. (out.new ≡ out.old) × (err.new ≡ err.old)) }
     ensures out_faults { O.faults out.old ≤ O.faults out.new }
     ensures err_faults { E.faults err.old ≤ E.faults err.new }
 {
@@ -149,6 +158,12 @@ where
     requires least { 1 ≤ processors }
     requires most { processors ≤ 1024 }
     ensures status { IsStatus result }
+    ensures nothing { IsSilent result → O.told out.old → O.written out.new ≡ O.written out.old }
+    ensures write_fault { result ≡ 6 → Rose (O.faults out.old) (O.faults out.new) }
+    ensures usage_text { result ≡ 2 → E.told err.old → (Rose (E.faults err.old) (E.faults err.new) → ⊥)
+        → E.written err.new ≡ E.written err.old ++ text_of_status result }
+    ensures text { IsSilent result ⊎ (result ≡ 6) → E.told err.old → (Rose (E.faults err.old) (E.faults err.new) → ⊥)
+        → (said : List ℕ) × (E.written err.new ≡ E.written err.old ++ (said ++ text_of_status result)) }
     ensures out_faults { O.faults out.old ≤ O.faults out.new }
     ensures err_faults { E.faults err.old ≤ E.faults err.new }
 {

@@ -1,8 +1,9 @@
 // The token of a run, and the words without the one that gives it.
-ghost use Rattle.std.specs.Prelude.{◌≡◌, ◌≤◌, ◌<◌, ◌^◌, ℕ, List, [], ◌∷◌, ◌++◌, true, false, length, drop, IfOk, MatchOption, option_map, string_bytes, IsTrue, cond, None, Some};
+ghost use Rattle.std.specs.Prelude.{◌≡◌, ◌≤◌, ◌<◌, ◌^◌, ℕ, List, [], ◌∷◌, ◌++◌, true, false, length, drop, IfOk, MatchOption, option_map, map, string_bytes, IsTrue, cond, None, Some, Option};
 ghost use Rattle.std.specs.Fmt.{digits};
+ghost use Rattle.std.specs.Option.{is_some};
 ghost use Rattle.jl_text.specs.Texts.{is_token};
-ghost use Rattle.joblib.specs.Tokens.{GivesToken, GivesNone, token_flag, moment_token, variable_or, token_of};
+ghost use Rattle.joblib.specs.Tokens.{Gives, token_flag, own_of, moment_token, variable_or, token_of};
 
 use jl_text::{Token, TokenFault};
 use std::alloc::{AllocError, Global};
@@ -16,8 +17,7 @@ fn behind_flag(word: &str) -> Option<&str>
 
 // The text as a token, where it is one.
 fn token_in(alloc: Global, text: &str) -> Result<Option<Token>, AllocError>
-    ensures token { is_token text.now ≡ true → IfOk result (λ t. t ≡ Some text.now) }
-    ensures none { is_token text.now ≡ false → IfOk result (λ t. t ≡ None) }
+    ensures { IfOk result (λ token. token ≡ cond (is_token text.now) (Some text.now) None) }
 {
     match Token::read(alloc, text) {
         Ok(token) => Ok(Some(token)),
@@ -28,8 +28,7 @@ fn token_in(alloc: Global, text: &str) -> Result<Option<Token>, AllocError>
 
 /// The token that a word gives, as `--token=abc` gives `abc`.
 pub fn given_token(alloc: Global, word: &str) -> Result<Option<Token>, AllocError>
-    ensures given { (t : List ℕ) → GivesToken word.now t → IfOk result (λ token. token ≡ Some t) }
-    ensures none { GivesNone word.now → IfOk result (λ token. token ≡ None) }
+    ensures { IfOk result (λ token. Gives word.now token) }
 {
     match behind_flag(word) {
         Some(text) => token_in(alloc, text),
@@ -39,7 +38,8 @@ pub fn given_token(alloc: Global, word: &str) -> Result<Option<Token>, AllocErro
 
 /// The words without the first, where that gave the token.
 pub fn own_words(words: &[String], given: bool) -> &[String]
-    ensures { result.now ≡ cond given (drop 1 words.now) words.now }
+    ensures same { result.now ≡ cond given (drop 1 words.now) words.now }
+    ensures bytes { (token : Option (List ℕ)) → given ≡ is_some token → map string_bytes result.now ≡ own_of token (map string_bytes words.now) }
 {
     match words {
         [_, rest @ ..] => { if given { rest } else { words } }
