@@ -19,8 +19,8 @@ abbrev pub fault_text : StartFault → List ℕ
 fault_text Usage = error_line (codes "usage")
 fault_text Memory = error_line (codes "out of memory")
 
--- an output was put out whole: its status, its bytes behind what was written, and its text behind what was told
-pub record PutsOut (n : ℕ) (out_tells err_clear : Type 0) (written written' errors errors' : List ℕ) (o : Output) : Type 0 where
+-- an output was put out whole: its status, its bytes behind what was written, and with nothing before it its text on the error stream
+pub record PutsWhole (n : ℕ) (out_tells err_clear : Type 0) (written written' errors errors' : List ℕ) (o : Output) : Type 0 where
   pub status : o.status ≡ n
   pub bytes : out_tells → written' ≡ written ++ o.bytes
   pub text : err_clear → errors' ≡ errors ++ o.text

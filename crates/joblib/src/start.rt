@@ -3,7 +3,7 @@ ghost use Rattle.std.specs.Prelude.{◌≡◌, ◌⊎◌, ◌≤◌, ◌++◌, �
 ghost use Rattle.jl_text.specs.Counts.{Rose};
 ghost use Rattle.joblib.specs.Tokens.{FirstGives, IsTokenOf};
 ghost use Rattle.jl_cmd.specs.Promises.{IsSilent, IsStatus, text_of_status};
-ghost use Rattle.joblib.specs.Starts.{PutsOut, RunsWords, fault_status, fault_text};
+ghost use Rattle.joblib.specs.Starts.{PutsWhole, RunsWords, fault_status, fault_text};
 
 use crate::real_folder::RealFolder;
 use crate::real_host::{RealHost, moment_of};
@@ -116,7 +116,7 @@ where
     requires least { 1 ≤ processors }
     requires most { processors ≤ 1024 }
     ensures words { IfOk result (λ n. RunsWords (map string_bytes words.now) processors
-        (PutsOut n (O.told out.old) (E.told err.old × (Rose (E.faults err.old) (E.faults err.new) → ⊥)) (O.written out.old) (O.written out.new)
+        (PutsWhole n (O.told out.old) (E.told err.old × (Rose (E.faults err.old) (E.faults err.new) → ⊥)) (O.written out.old) (O.written out.new)
         (E.written err.old) (E.written err.new)) n) }
     ensures status { IfOk result (λ n. IsStatus n) }
     ensures nothing { IfOk result (λ n. IsSilent n → O.told out.old → O.written out.new ≡ O.written out.old) }
