@@ -3,13 +3,13 @@ use Rattle.std.proofs.Common.{ℕ, List}
 use Rattle.jl_text.specs.Paths.{PathView}
 use Rattle.jl_text.specs.Counts.{Faults}
 use Rattle.jl_folder.specs.State.{History, Opens, now, since}
-use Rattle.jl_claims.specs.Steps.{IsLone}
-use Rattle.jl_claims.specs.Claims.{Called, Anywhere}
-use Rattle.jl_claims.proofs.Composed.{called_keeps, called_for}
-use Rattle.jl_laws.specs.Whole.{Answers}
-use Rattle.jl_laws.specs.Proper.{IsProper, IsLawful}
-use Rattle.jl_laws.specs.Tidy.{IsTidy, IsSound}
-use Rattle.jl_laws.proofs.Kills.{sound_carried}
+use Rattle.jl_rely.specs.Steps.{IsLone}
+use Rattle.jl_rely.specs.Claims.{Called, Anywhere}
+use Rattle.jl_rely.proofs.Composed.{called_keeps, called_for}
+use Rattle.jl_protocol.specs.Whole.{Answers}
+use Rattle.jl_protocol.specs.Proper.{IsProper, IsLawful}
+use Rattle.jl_protocol.specs.Tidy.{IsTidy, IsSound}
+use Rattle.jl_protocol.proofs.Kills.{sound_carried}
 use Rattle.jl_clear.specs.Doing.{AnyMove}
 use Rattle.jl_clear.proofs.DoingLemmas.{moves_called}
 use Rattle.jl_clear.specs.Taking.{IsTaking, IsTakenAway}

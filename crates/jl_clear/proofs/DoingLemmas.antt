@@ -4,11 +4,11 @@ use Rattle.jl_folder.specs.declared.moves.Move.{Move}
 use Rattle.jl_folder.specs.State.{State, Trace, History, Opens, IsTrace, now, since, run, after}
 use Rattle.jl_folder.specs.Calls.{Call, Waits, own_event}
 use Rattle.jl_text.specs.Counts.{Rose}
-use Rattle.jl_claims.specs.Steps.{StepFact, OwnMoves, Throughout}
-use Rattle.jl_claims.specs.Claims.{GoesOn, Called, Anywhere}
-use Rattle.jl_claims.proofs.Traces.{OwnMoves-append, OwnMoves-weaken, foreign_own}
-use Rattle.jl_claims.proofs.Since.{Went, since_went, went_none, went_on}
-use Rattle.jl_claims.proofs.Composed.{went_call, went_waits}
+use Rattle.jl_rely.specs.Steps.{StepFact, OwnMoves, Throughout}
+use Rattle.jl_rely.specs.Claims.{GoesOn, Called, Anywhere}
+use Rattle.jl_rely.proofs.Traces.{OwnMoves-append, OwnMoves-weaken, foreign_own}
+use Rattle.jl_rely.proofs.Since.{Went, since_went, went_none, went_on}
+use Rattle.jl_rely.proofs.Composed.{went_call, went_waits}
 use Rattle.jl_clear.specs.Doing.{Moves, Does}
 
 pub rose_later : (a b c : ℕ) → Rose a b → b ≤ c → Rose a c

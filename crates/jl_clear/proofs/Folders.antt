@@ -12,8 +12,8 @@ use Rattle.jl_entry.specs.declared.names.EntryFile.{EntryFile}
 use Rattle.jl_entry.specs.declared.names.EntryFile.TheVariants.{Output, Metadata, Access}
 use Rattle.jl_entry.specs.Names.{Final, code_of, entry_of, IsFinal, IsTemp, IsStoreName, IsStoreFolder, IsFolderParts, IsOnWay, IsBelow, below, final_parts, temp_parts, is_key, code_part, entry_part, suffix}
 use Rattle.jl_entry.proofs.NameFacts.{final_not_folder, temp_not_folder, final_below, temp_below}
-use Rattle.jl_claims.proofs.Causes.{place_none}
-use Rattle.jl_laws.specs.Tidy.{IsTidy}
+use Rattle.jl_rely.proofs.Causes.{place_none}
+use Rattle.jl_protocol.specs.Tidy.{IsTidy}
 use Rattle.jl_clear.specs.Taking.{IsEntryName, IsFunctionFolder, IsCodeName, IsKeyName, IsNameOf, IsModuleFolder, IsEntryFolder}
 use Rattle.jl_clear.specs.Clearing.{IsPlace}
 use Rattle.jl_clear.proofs.Paths.{free_named}

@@ -4,7 +4,7 @@ use Rattle.std.specs.List.{list_all}
 use Rattle.std.proofs.lemmas.List.{append_cancel_left}
 use Rattle.jl_entry.specs.declared.names.EntryFile.TheVariants.{Output, Metadata, Access}
 use Rattle.jl_entry.specs.Names.{entry_part, suffix, is_key, is_hex_byte}
-use Rattle.jl_claims.proofs.Effects.{number_apart}
+use Rattle.jl_rely.proofs.Effects.{number_apart}
 use Rattle.jl_clear.specs.Taking.{IsEntryName, IsNamed}
 
 -- the bytes of `.tmp-` and what stands behind them

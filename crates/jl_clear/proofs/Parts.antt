@@ -11,10 +11,10 @@ use Rattle.jl_folder.specs.declared.folder.RemovedDir.TheVariants as removed_dir
 use Rattle.jl_folder.specs.State.{State, History, Opens, place_at, now, since}
 use Rattle.jl_folder.specs.Calls.{Call, RemovesFile, RemovesFolder}
 use Rattle.jl_entry.specs.Names.{IsStoreName, IsBelow}
-use Rattle.jl_claims.specs.Steps.{IsLone}
-use Rattle.jl_claims.specs.Claims.{Anywhere}
-use Rattle.jl_claims.proofs.Alone.{moves_alone, lone_parts}
-use Rattle.jl_laws.specs.Tidy.{IsTidy}
+use Rattle.jl_rely.specs.Steps.{IsLone}
+use Rattle.jl_rely.specs.Claims.{Anywhere}
+use Rattle.jl_rely.proofs.Alone.{moves_alone, lone_parts}
+use Rattle.jl_protocol.specs.Tidy.{IsTidy}
 use Rattle.jl_clear.specs.Removing.{clear_of, clear_of_folder}
 use Rattle.jl_clear.specs.declared.removing.Clear.{Clear}
 use Rattle.jl_clear.specs.declared.removing.Clear.TheVariants as clear

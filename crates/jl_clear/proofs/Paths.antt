@@ -7,7 +7,7 @@ use Rattle.jl_text.specs.Paths.{PathView, is_fixed, parent}
 use Rattle.jl_folder.specs.declared.moves.Place.{Place}
 use Rattle.jl_folder.specs.State.{State, IsState, place_at, is_folder, is_folder_place}
 use Rattle.jl_entry.specs.Names.{IsBelow}
-use Rattle.jl_claims.proofs.Effects.{number_apart}
+use Rattle.jl_rely.proofs.Effects.{number_apart}
 use Rattle.jl_clear.specs.Taking.{IsInside}
 use Rattle.jl_clear.specs.Clearing.{IsOfEntries}
 

@@ -11,13 +11,13 @@ use Rattle.jl_folder.specs.declared.folder.RemovedDir.TheVariants as removed_dir
 use Rattle.jl_folder.specs.State.{State, Trace, History, place_at, now, since, run, after}
 use Rattle.jl_folder.specs.Calls.{RemovesFile, RemovesFolder, IsKept, own_event}
 use Rattle.jl_entry.specs.Names.{IsStoreName, IsStoreFolder, IsBelow}
-use Rattle.jl_claims.specs.Steps.{StepFact, AllSteps, OwnMoves, IsLone}
-use Rattle.jl_claims.proofs.Since.{now_went}
-use Rattle.jl_laws.specs.Whole.{Answers}
-use Rattle.jl_laws.specs.Proper.{IsProper, IsLawful, RenamesTrue}
-use Rattle.jl_laws.specs.Tidy.{IsTidy}
-use Rattle.jl_laws.proofs.Kills.{tidy_at_end}
-use Rattle.jl_laws.proofs.LawfulCalls.{always_remove, always_remove_dir}
+use Rattle.jl_rely.specs.Steps.{StepFact, AllSteps, OwnMoves, IsLone}
+use Rattle.jl_rely.proofs.Since.{now_went}
+use Rattle.jl_protocol.specs.Whole.{Answers}
+use Rattle.jl_protocol.specs.Proper.{IsProper, IsLawful, RenamesTrue}
+use Rattle.jl_protocol.specs.Tidy.{IsTidy}
+use Rattle.jl_protocol.proofs.Kills.{tidy_at_end}
+use Rattle.jl_protocol.proofs.LawfulCalls.{always_remove, always_remove_dir}
 use Rattle.jl_clear.specs.Doing.{Moves}
 use Rattle.jl_clear.specs.Removing.{clear_of, clear_of_folder}
 use Rattle.jl_clear.specs.declared.removing.Clear.TheVariants as clear

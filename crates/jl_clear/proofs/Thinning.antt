@@ -6,8 +6,8 @@ use Rattle.jl_folder.specs.declared.moves.Place.TheVariants.{Folder, File}
 use Rattle.jl_folder.specs.declared.moves.Move.TheVariants.{Remove, RemoveDir}
 use Rattle.jl_folder.specs.State.{State, place_at, node_at, bytes_of, after}
 use Rattle.jl_folder.proofs.Looks.{node_at-after}
-use Rattle.jl_claims.proofs.Effects.{removed_here, unmade_here}
-use Rattle.jl_claims.proofs.Touched.{step_or_touch}
+use Rattle.jl_rely.proofs.Effects.{removed_here, unmade_here}
+use Rattle.jl_rely.proofs.Touched.{step_or_touch}
 use Rattle.jl_clear.specs.Taking.{IsTakenAway}
 use Rattle.jl_clear.specs.Clearing.{Thinned}
 

@@ -7,8 +7,8 @@ use Rattle.jl_folder.specs.declared.moves.Place.{Place}
 use Rattle.jl_folder.specs.State.{State, History, Opens, place_at, node_at, now, since}
 use Rattle.jl_folder.specs.Listing.{Stands}
 use Rattle.jl_entry.specs.Names.{IsStoreFolder, IsBelow}
-use Rattle.jl_claims.specs.Steps.{IsLone}
-use Rattle.jl_laws.specs.Tidy.{IsTidy}
+use Rattle.jl_rely.specs.Steps.{IsLone}
+use Rattle.jl_protocol.specs.Tidy.{IsTidy}
 use Rattle.jl_clear.specs.Doing.{Does}
 use Rattle.jl_clear.specs.Taking.{IsTaking, IsInside, IsKeyName, IsCodeName}
 

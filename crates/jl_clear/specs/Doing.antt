@@ -2,7 +2,7 @@
 use Rattle.std.specs.Prelude.{◌≡◌, ◌≤◌, ℕ, List, ◌++◌, ⊤}
 use Rattle.jl_folder.specs.declared.moves.Move.{Move}
 use Rattle.jl_folder.specs.State.{History, Opens, IsTrace, now, since}
-use Rattle.jl_claims.specs.Steps.{OwnMoves}
+use Rattle.jl_rely.specs.Steps.{OwnMoves}
 
 -- any move
 abbrev pub AnyMove : Move → Type 0

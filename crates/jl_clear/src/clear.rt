@@ -5,11 +5,11 @@ ghost use Rattle.jl_text.specs.Texts.{is_name};
 ghost use Rattle.jl_text.specs.Counts.{Faults};
 ghost use Rattle.jl_folder.specs.State.{now, since};
 ghost use Rattle.jl_entry.specs.Names.{IsBelow, below, root_of};
-ghost use Rattle.jl_claims.specs.Steps.{IsLone};
-ghost use Rattle.jl_claims.specs.Claims.{Called, Anywhere};
-ghost use Rattle.jl_laws.specs.Whole.{Answers};
-ghost use Rattle.jl_laws.specs.Proper.{IsProper, IsLawful};
-ghost use Rattle.jl_laws.specs.Tidy.{IsTidy, IsSound};
+ghost use Rattle.jl_rely.specs.Steps.{IsLone};
+ghost use Rattle.jl_rely.specs.Claims.{Called, Anywhere};
+ghost use Rattle.jl_protocol.specs.Whole.{Answers};
+ghost use Rattle.jl_protocol.specs.Proper.{IsProper, IsLawful};
+ghost use Rattle.jl_protocol.specs.Tidy.{IsTidy, IsSound};
 ghost use Rattle.jl_clear.specs.Doing.{AnyMove};
 ghost use Rattle.jl_clear.specs.Taking.{IsTaking, IsInside, IsTakenAway};
 

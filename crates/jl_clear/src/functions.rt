@@ -2,7 +2,7 @@
 ghost use Rattle.std.specs.Prelude.{◌≡◌, ◌⊎◌, ◌++◌, ◌∷◌, [], All, IsTrue};
 ghost use Rattle.jl_text.specs.Paths.{PathView, is_part};
 ghost use Rattle.jl_entry.specs.Names.{IsBelow};
-ghost use Rattle.jl_claims.specs.Claims.{Anywhere};
+ghost use Rattle.jl_rely.specs.Claims.{Anywhere};
 ghost use Rattle.jl_clear.specs.Taking.{IsFunctionFolder, IsCodeName, IsKeyName};
 ghost use Rattle.jl_clear.specs.Clearing.{Clears, HasAll, HasCode, Handled, IsOfEntries, ClearsPart};
 

@@ -2,7 +2,7 @@
 ghost use Rattle.std.specs.Prelude.{◌≡◌};
 ghost use Rattle.jl_text.specs.Paths.{PathView};
 ghost use Rattle.jl_entry.specs.Names.{IsBelow, IsStoreName};
-ghost use Rattle.jl_claims.specs.Claims.{Anywhere};
+ghost use Rattle.jl_rely.specs.Claims.{Anywhere};
 ghost use Rattle.jl_clear.specs.Removing.{clear_of, clear_of_folder};
 ghost use Rattle.jl_clear.specs.Clearing.{Clears, IsPlace, IsEmptied};
 

@@ -6,7 +6,7 @@ use Rattle.std.proofs.Math.Seq.{take-suc}
 use Rattle.std.specs.Option.{option_and_then}
 use Rattle.jl_text.specs.Paths.{PathView, last_part}
 use Rattle.jl_text.specs.Texts.{is_name}
-use Rattle.jl_laws.proofs.Before.{one_value, some_not_none, some_of}
+use Rattle.jl_protocol.proofs.Before.{one_value, some_not_none, some_of}
 use Rattle.jl_store.specs.declared.memory.Warning.{Warning}
 use Rattle.jl_store.specs.Warnings.{warning_text}
 use Rattle.jl_cmd.specs.Texts.{warning_lines}
@@ -14,16 +14,16 @@ use Rattle.jl_cmd.specs.Calling.{Course}
 use Rattle.jl_cmd.specs.Saying.{GivenLines}
 use Rattle.jl_folder.specs.State.{Trace, History, IsTrace, now, since}
 use Rattle.jl_folder.specs.Reading.{ReadsNamed}
-use Rattle.jl_claims.specs.Steps.{OwnMoves}
-use Rattle.jl_claims.specs.Claims.{GoesOn, Silent}
-use Rattle.jl_claims.proofs.Since.{since_went, went_none, since_then}
-use Rattle.jl_claims.proofs.Traces.{with_others}
-use Rattle.jl_claims.proofs.Composed.{called_went}
-use Rattle.jl_claims.proofs.Touched.{same_token}
+use Rattle.jl_rely.specs.Steps.{OwnMoves}
+use Rattle.jl_rely.specs.Claims.{GoesOn, Silent}
+use Rattle.jl_rely.proofs.Since.{since_went, went_none, since_then}
+use Rattle.jl_rely.proofs.Traces.{with_others}
+use Rattle.jl_rely.proofs.Composed.{called_went}
+use Rattle.jl_rely.proofs.Touched.{same_token}
 use Rattle.jl_entry.specs.Names.{root_of}
-use Rattle.jl_laws.specs.Whole.{Answers}
-use Rattle.jl_laws.specs.Tidy.{IsSound}
-use Rattle.jl_laws.specs.Proper.{IsLawful, LawfulThroughout}
+use Rattle.jl_protocol.specs.Whole.{Answers}
+use Rattle.jl_protocol.specs.Tidy.{IsSound}
+use Rattle.jl_protocol.specs.Proper.{IsLawful, LawfulThroughout}
 use Rattle.jl_clear.specs.Doing.{AnyMove}
 use Rattle.jl_store.proofs.Lawfully.{Lawfully, lawful_none}
 use Rattle.jl_words.specs.ModuleNames.{stem_of, name_of, module_name_of}

@@ -6,16 +6,16 @@ use Rattle.jl_text.specs.Counts.{Rose}
 use Rattle.jl_folder.specs.State.{State, History, now, since}
 use Rattle.jl_folder.specs.Calls.{Waits}
 use Rattle.jl_value.specs.Library.{Answer}
-use Rattle.jl_claims.specs.Steps.{IsLone}
-use Rattle.jl_claims.specs.Claims.{GoesOn}
-use Rattle.jl_claims.specs.Touches.{TouchedByOther}
-use Rattle.jl_claims.proofs.Alone.{lone_parts, waits_alone}
-use Rattle.jl_claims.proofs.Causes.{touched_later}
+use Rattle.jl_rely.specs.Steps.{IsLone}
+use Rattle.jl_rely.specs.Claims.{GoesOn}
+use Rattle.jl_rely.specs.Touches.{TouchedByOther}
+use Rattle.jl_rely.proofs.Alone.{lone_parts, waits_alone}
+use Rattle.jl_rely.proofs.Causes.{touched_later}
 use Rattle.jl_entry.specs.Names.{root_of}
-use Rattle.jl_laws.specs.Whole.{Answers}
-use Rattle.jl_laws.specs.Tidy.{IsSound}
-use Rattle.jl_laws.specs.Proper.{IsLawful}
-use Rattle.jl_laws.proofs.Before.{one_value}
+use Rattle.jl_protocol.specs.Whole.{Answers}
+use Rattle.jl_protocol.specs.Tidy.{IsSound}
+use Rattle.jl_protocol.specs.Proper.{IsLawful}
+use Rattle.jl_protocol.proofs.Before.{one_value}
 use Rattle.jl_store.specs.declared.memory.Memory.{Memory}
 use Rattle.jl_store.specs.declared.memory.Warning.{Warning}
 use Rattle.jl_store.specs.declared.memory.WarnKind.{WarnKind}

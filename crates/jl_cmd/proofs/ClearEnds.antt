@@ -4,10 +4,10 @@ use Rattle.jl_text.specs.Paths.{PathView}
 use Rattle.jl_folder.specs.State.{History, since}
 use Rattle.jl_value.specs.declared.key.Key.{Key}
 use Rattle.jl_entry.specs.Names.{root_of}
-use Rattle.jl_claims.specs.Steps.{OwnMoves}
-use Rattle.jl_claims.proofs.Since.{since_went, went_none}
-use Rattle.jl_laws.specs.Whole.{Answers}
-use Rattle.jl_laws.specs.Proper.{LawfulThroughout}
+use Rattle.jl_rely.specs.Steps.{OwnMoves}
+use Rattle.jl_rely.proofs.Since.{since_went, went_none}
+use Rattle.jl_protocol.specs.Whole.{Answers}
+use Rattle.jl_protocol.specs.Proper.{LawfulThroughout}
 use Rattle.jl_store.proofs.Lawfully.{Lawfully, lawful_none}
 use Rattle.jl_clear.specs.Taking.{IsTaking}
 use Rattle.jl_cmd.specs.declared.ended.Ended.{Ended}

@@ -4,8 +4,8 @@ use Rattle.std.specs.Bool.{⊤}
 use Rattle.std.proofs.lemmas.List.{append_cancel_left}
 use Rattle.jl_text.specs.Paths.{PathView}
 use Rattle.jl_folder.specs.State.{State, Trace, History, now, since}
-use Rattle.jl_claims.specs.Claims.{GoesOn}
-use Rattle.jl_laws.specs.Whole.{Answers}
+use Rattle.jl_rely.specs.Claims.{GoesOn}
+use Rattle.jl_protocol.specs.Whole.{Answers}
 use Rattle.jl_store.specs.declared.memory.Memory.{Memory}
 use Rattle.jl_store.specs.declared.memory.Warning.{Warning}
 use Rattle.jl_store.specs.declared.cached.Cached.{Cached}

@@ -3,7 +3,7 @@ use Rattle.std.proofs.Common.{◌≡◌, ◌≤◌, ◌∙◌, ◌⊎◌, ◌++�
 use Rattle.std.specs.Prelude.{⊤}
 use Rattle.jl_text.specs.Paths.{PathView}
 use Rattle.jl_text.specs.Counts.{Rose}
-use Rattle.jl_laws.proofs.Before.{some_not_none}
+use Rattle.jl_protocol.proofs.Before.{some_not_none}
 use Rattle.jl_streams.specs.Streams.{WritesAll, WritesPrefix}
 use Rattle.jl_streams.specs.declared.sink.WroteAll.{WroteAll}
 use Rattle.jl_streams.specs.declared.sink.WroteAll.TheVariants.{Done as Wrote, Fault}

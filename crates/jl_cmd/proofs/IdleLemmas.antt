@@ -2,11 +2,11 @@
 use Rattle.std.proofs.Common.{◌≡◌, ◌≢◌, ℕ, List, [], refl, sym, ap, subst, inl, inr, arith}
 use Rattle.jl_folder.specs.State.{History, since}
 use Rattle.jl_folder.specs.Calls.{Waits}
-use Rattle.jl_claims.specs.Steps.{OwnMoves}
-use Rattle.jl_claims.specs.Claims.{Silent}
-use Rattle.jl_claims.proofs.Since.{since_went, went_none}
-use Rattle.jl_claims.proofs.Composed.{went_waits}
-use Rattle.jl_claims.proofs.Traces.{foreign_own}
+use Rattle.jl_rely.specs.Steps.{OwnMoves}
+use Rattle.jl_rely.specs.Claims.{Silent}
+use Rattle.jl_rely.proofs.Since.{since_went, went_none}
+use Rattle.jl_rely.proofs.Composed.{went_waits}
+use Rattle.jl_rely.proofs.Traces.{foreign_own}
 use Rattle.jl_tracker.specs.declared.following.Tracked.{Tracked}
 use Rattle.jl_tracker.specs.declared.following.Tracked.TheVariants as tracked
 use Rattle.jl_cmd.specs.declared.computed.Computed.{Computed}

@@ -2,15 +2,15 @@
 use Rattle.std.proofs.Common.{◌≡◌, inl, inr, ℕ, List, [], Option, None, Some, refl, sym, subst}
 use Rattle.jl_text.specs.Paths.{PathView}
 use Rattle.jl_folder.specs.State.{History, now, since}
-use Rattle.jl_limits.specs.declared.limits.Limits.{Limits}
+use Rattle.jl_quota.specs.declared.limits.Limits.{Limits}
 use Rattle.jl_entry.specs.Names.{root_of}
-use Rattle.jl_claims.specs.Steps.{IsLone, OwnMoves}
-use Rattle.jl_claims.proofs.Since.{since_went, went_none}
-use Rattle.jl_laws.specs.Whole.{Answers}
-use Rattle.jl_laws.specs.Proper.{LawfulThroughout}
+use Rattle.jl_rely.specs.Steps.{IsLone, OwnMoves}
+use Rattle.jl_rely.proofs.Since.{since_went, went_none}
+use Rattle.jl_protocol.specs.Whole.{Answers}
+use Rattle.jl_protocol.specs.Proper.{LawfulThroughout}
 use Rattle.jl_store.proofs.Lawfully.{Lawfully, lawful_none}
 use Rattle.jl_clear.specs.Taking.{IsTaking}
-use Rattle.jl_laws.specs.Tidy.{IsTidy}
+use Rattle.jl_protocol.specs.Tidy.{IsTidy}
 use Rattle.jl_evict.specs.declared.reducing.Reduced.{Reduced}
 use Rattle.jl_evict.specs.declared.reducing.Reduced.TheVariants as reduced
 use Rattle.jl_evict.specs.Reducing.{IsOfEntry, Reports, Evicts}

@@ -7,12 +7,12 @@ use Rattle.jl_folder.specs.declared.moves.Move.{Move}
 use Rattle.jl_folder.specs.declared.moves.Move.TheVariants.{Remove, RemoveDir}
 use Rattle.jl_folder.specs.State.{State, History}
 use Rattle.jl_folder.specs.Calls.{Call, Waits, Maybe}
-use Rattle.jl_claims.specs.Steps.{StepFact}
-use Rattle.jl_claims.specs.Claims.{Called, Anywhere}
-use Rattle.jl_claims.proofs.Composed.{always_stable, IsOwnTurn, own_still, own_step, turn_called, waits_called, not_called, then_called}
+use Rattle.jl_rely.specs.Steps.{StepFact}
+use Rattle.jl_rely.specs.Claims.{Called, Anywhere}
+use Rattle.jl_rely.proofs.Composed.{always_stable, IsOwnTurn, own_still, own_step, turn_called, waits_called, not_called, then_called}
 use Rattle.jl_entry.specs.Names.{IsBelow, IsOnWay, IsOutside, is_rooted}
-use Rattle.jl_laws.specs.Whole.{Answers}
-use Rattle.jl_laws.specs.Proper.{IsProperOutside, IsLawful, RenamesTrue, LawfulThroughout}
+use Rattle.jl_protocol.specs.Whole.{Answers}
+use Rattle.jl_protocol.specs.Proper.{IsProperOutside, IsLawful, RenamesTrue, LawfulThroughout}
 use Rattle.jl_lines.specs.Lines.{lines_of}
 use Rattle.jl_tracker.specs.declared.line.Kind.{Kind}
 use Rattle.jl_tracker.specs.declared.line.Kind.TheVariants as kind

@@ -1,12 +1,12 @@
 -- What a run rests on and owes, by the cache folder of its command.
 use Rattle.std.specs.Prelude.{◌≡◌, ◌≢◌, ℕ, List, ◌++◌, Option, Some, None, IsSome, ⊤}
 use Rattle.jl_folder.specs.State.{History, now, since, IsTrace}
-use Rattle.jl_claims.specs.Steps.{Throughout, OwnMoves}
-use Rattle.jl_claims.specs.Claims.{Silent}
+use Rattle.jl_rely.specs.Steps.{Throughout, OwnMoves}
+use Rattle.jl_rely.specs.Claims.{Silent}
 use Rattle.jl_entry.specs.Names.{root_of}
-use Rattle.jl_laws.specs.Whole.{Answers}
-use Rattle.jl_laws.specs.Tidy.{IsSound}
-use Rattle.jl_laws.specs.Proper.{IsLawful, LawfulThroughout}
+use Rattle.jl_protocol.specs.Whole.{Answers}
+use Rattle.jl_protocol.specs.Tidy.{IsSound}
+use Rattle.jl_protocol.specs.Proper.{IsLawful, LawfulThroughout}
 use Rattle.jl_store.specs.Trust.{IsTrusted}
 use Rattle.jl_words.specs.ModuleNames.{module_name_of}
 use Rattle.jl_cmd.specs.Following.{TakesAsked}

@@ -5,10 +5,10 @@ use Rattle.jl_text.specs.Counts.{Rose}
 use Rattle.jl_text.specs.Paths.{PathView}
 use Rattle.jl_value.specs.declared.key.Key.{Key}
 use Rattle.jl_folder.specs.State.{History, now, since}
-use Rattle.jl_claims.specs.Steps.{OwnMoves, IsLone}
-use Rattle.jl_laws.specs.Whole.{Answers}
-use Rattle.jl_laws.specs.Proper.{LawfulThroughout}
-use Rattle.jl_laws.specs.Tidy.{IsTidy}
+use Rattle.jl_rely.specs.Steps.{OwnMoves, IsLone}
+use Rattle.jl_protocol.specs.Whole.{Answers}
+use Rattle.jl_protocol.specs.Proper.{LawfulThroughout}
+use Rattle.jl_protocol.specs.Tidy.{IsTidy}
 use Rattle.jl_entry.specs.Names.{IsBelow, below, root_of}
 use Rattle.jl_clear.specs.Taking.{IsTaking, IsInside, IsTakenAway}
 use Rattle.jl_cmd.specs.Commands.{Command, call, hash, clear, reduce_size, tracker}

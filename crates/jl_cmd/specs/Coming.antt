@@ -3,7 +3,7 @@ use Rattle.std.specs.Prelude.{◌≡◌, ℕ, List, [], ◌++◌, Option, Some, 
 use Rattle.jl_text.specs.Paths.{PathView}
 use Rattle.jl_folder.specs.State.{History, now, since}
 use Rattle.jl_value.specs.Form.{tree_of}
-use Rattle.jl_laws.specs.Whole.{Answers}
+use Rattle.jl_protocol.specs.Whole.{Answers}
 use Rattle.jl_store.specs.declared.memory.Memory.{Memory}
 use Rattle.jl_store.specs.declared.memory.Warning.{Warning}
 use Rattle.jl_store.specs.declared.cached.Cached.{Cached}

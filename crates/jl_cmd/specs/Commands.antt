@@ -2,7 +2,7 @@
 use Rattle.std.specs.Prelude.{ℕ, List, Option, Some, None, String, map, string_bytes}
 use Rattle.std.specs.Option.{option_and_then}
 use Rattle.jl_text.specs.Paths.{PathView}
-use Rattle.jl_limits.specs.declared.limits.Limits.{Limits}
+use Rattle.jl_quota.specs.declared.limits.Limits.{Limits}
 use Rattle.jl_value.specs.declared.key.Key.{Key}
 use Rattle.jl_words.specs.Settings.{settings_of}
 use Rattle.jl_words.specs.declared.types.Settings.{Settings}

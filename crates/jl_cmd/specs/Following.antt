@@ -5,10 +5,10 @@ use Rattle.jl_text.specs.Counts.{Rose}
 use Rattle.jl_folder.specs.declared.moves.Move.{Move}
 use Rattle.jl_folder.specs.declared.moves.Move.TheVariants.{Remove, RemoveDir}
 use Rattle.jl_folder.specs.State.{History, now, since}
-use Rattle.jl_claims.specs.Steps.{OwnMoves}
+use Rattle.jl_rely.specs.Steps.{OwnMoves}
 use Rattle.jl_entry.specs.Names.{IsOutside}
-use Rattle.jl_laws.specs.Whole.{Answers}
-use Rattle.jl_laws.specs.Proper.{LawfulThroughout}
+use Rattle.jl_protocol.specs.Whole.{Answers}
+use Rattle.jl_protocol.specs.Proper.{LawfulThroughout}
 use Rattle.jl_lines.specs.Lines.{lines_of}
 use Rattle.jl_tracker.specs.declared.line.Kind.{Kind}
 use Rattle.jl_tracker.specs.declared.line.Kind.TheVariants as kind

@@ -7,11 +7,11 @@ use Rattle.jl_folder.specs.State.{History, now, since}
 use Rattle.jl_streams.specs.Moments.{moment_of}
 use Rattle.jl_streams.specs.Streams.{WritesPrefix}
 use Rattle.jl_entry.specs.Names.{root_of}
-use Rattle.jl_limits.specs.declared.limits.Limits.{Limits}
-use Rattle.jl_claims.specs.Steps.{OwnMoves, IsLone}
-use Rattle.jl_laws.specs.Whole.{Answers}
-use Rattle.jl_laws.specs.Proper.{LawfulThroughout}
-use Rattle.jl_laws.specs.Tidy.{IsTidy}
+use Rattle.jl_quota.specs.declared.limits.Limits.{Limits}
+use Rattle.jl_rely.specs.Steps.{OwnMoves, IsLone}
+use Rattle.jl_protocol.specs.Whole.{Answers}
+use Rattle.jl_protocol.specs.Proper.{LawfulThroughout}
+use Rattle.jl_protocol.specs.Tidy.{IsTidy}
 use Rattle.jl_clear.specs.Taking.{IsTaking}
 use Rattle.jl_evict.specs.declared.reducing.Reduced.TheVariants as reduced
 use Rattle.jl_evict.specs.Reducing.{IsOfEntry, ReportsOf, EvictsOf}

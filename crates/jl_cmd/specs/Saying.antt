@@ -2,10 +2,10 @@
 use Rattle.std.specs.Prelude.{◌≡◌, ◌⊎◌, ℕ, List, [], Option, Some, None, ⊤}
 use Rattle.jl_text.specs.Counts.{Rose}
 use Rattle.jl_folder.specs.State.{now, since}
-use Rattle.jl_claims.specs.Steps.{IsLone}
+use Rattle.jl_rely.specs.Steps.{IsLone}
 use Rattle.jl_entry.specs.Names.{root_of}
-use Rattle.jl_laws.specs.Whole.{Answers}
-use Rattle.jl_laws.specs.Tidy.{IsSound}
+use Rattle.jl_protocol.specs.Whole.{Answers}
+use Rattle.jl_protocol.specs.Tidy.{IsSound}
 use Rattle.jl_store.specs.declared.memory.Warning.{Warning}
 use Rattle.jl_words.specs.ModuleNames.{module_name_of}
 use Rattle.jl_cmd.specs.Commands.{Command, call, hash, clear, reduce_size, tracker}

@@ -2,12 +2,12 @@
 ghost use Rattle.std.specs.Prelude.{◌≡◌, ◌≤◌, ◌⊎◌, ℕ, List, [], Some, IsSome, IfOk, IsTrue};
 ghost use Rattle.jl_text.specs.Texts.{is_name};
 ghost use Rattle.jl_entry.specs.Names.{root_of};
-ghost use Rattle.jl_laws.specs.Tidy.{IsSound};
-ghost use Rattle.jl_laws.specs.Proper.{IsLawful};
-ghost use Rattle.jl_claims.specs.Claims.{Called as CallsFolder, Silent};
+ghost use Rattle.jl_protocol.specs.Tidy.{IsSound};
+ghost use Rattle.jl_protocol.specs.Proper.{IsLawful};
+ghost use Rattle.jl_rely.specs.Claims.{Called as CallsFolder, Silent};
 ghost use Rattle.jl_text.specs.Counts.{Rose};
 ghost use Rattle.jl_folder.specs.State.{now, since};
-ghost use Rattle.jl_claims.specs.Steps.{IsLone, OwnMoves};
+ghost use Rattle.jl_rely.specs.Steps.{IsLone, OwnMoves};
 ghost use Rattle.jl_clear.specs.Doing.{AnyMove};
 ghost use Rattle.jl_store.specs.declared.memory.Warning.{Warning};
 ghost use Rattle.jl_store.specs.Trust.{IsTrusted};

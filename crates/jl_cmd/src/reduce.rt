@@ -1,10 +1,10 @@
 // The command `reduce-size`.
 ghost use Rattle.std.specs.Prelude.{◌≡◌, ◌≤◌, ℕ, IfOk};
 ghost use Rattle.jl_entry.specs.Names.{root_of};
-ghost use Rattle.jl_claims.specs.Claims.{Called as CallsFolder, Anywhere};
-ghost use Rattle.jl_laws.specs.Whole.{Answers};
-ghost use Rattle.jl_laws.specs.Proper.{IsProper, IsLawful};
-ghost use Rattle.jl_laws.specs.Tidy.{IsSound};
+ghost use Rattle.jl_rely.specs.Claims.{Called as CallsFolder, Anywhere};
+ghost use Rattle.jl_protocol.specs.Whole.{Answers};
+ghost use Rattle.jl_protocol.specs.Proper.{IsProper, IsLawful};
+ghost use Rattle.jl_protocol.specs.Tidy.{IsSound};
 ghost use Rattle.jl_clear.specs.Doing.{AnyMove};
 ghost use Rattle.jl_clear.specs.Taking.{IsTaking};
 ghost use Rattle.jl_evict.specs.Reducing.{IsOfEntry};
@@ -18,7 +18,7 @@ use crate::computed::Computed;
 use crate::ended::Ended;
 use jl_evict::{Reduced, reduce_size};
 use jl_folder::{Folder, Path};
-use jl_limits::Limits;
+use jl_quota::Limits;
 use jl_streams::{Host, Sink};
 use jl_text::Text;
 use std::alloc::{AllocError, Global};

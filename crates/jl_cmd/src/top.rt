@@ -2,8 +2,8 @@
 ghost use Rattle.std.specs.Prelude.{◌≡◌, ◌⊎◌, ◌≤◌, ◌++◌, ℕ, List, [], Some, None};
 ghost use Rattle.jl_text.specs.Counts.{Rose};
 ghost use Rattle.jl_folder.specs.State.{since};
-ghost use Rattle.jl_claims.specs.Steps.{OwnMoves};
-ghost use Rattle.jl_claims.specs.Claims.{Silent};
+ghost use Rattle.jl_rely.specs.Steps.{OwnMoves};
+ghost use Rattle.jl_rely.specs.Claims.{Silent};
 ghost use Rattle.jl_cmd.specs.Commands.{Command, command_of, given_by};
 ghost use Rattle.jl_cmd.specs.Output.{module_of, output_of, AreReading};
 ghost use Rattle.jl_cmd.specs.Caches.{GivenTrusts, GivenHasModule, OthersAreLawful, RunsLawfully};

@@ -1,7 +1,7 @@
 -- When nothing more has to go.
 use Rattle.std.proofs.Common.{◌≡◌, ℕ, zero, suc, ◌<◌, ◌≤◌, List, [], ◌∷◌, Option, None, Some, length, take, drop, get_or, sym, ap, subst, ◌∙◌, arith}
 use Rattle.std.proofs.Math.Seq.{drop-cons}
-use Rattle.jl_limits.specs.declared.limits.Limits.{Limits}
+use Rattle.jl_quota.specs.declared.limits.Limits.{Limits}
 use Rattle.jl_evict.specs.declared.item.Item.{Item}
 use Rattle.jl_evict.specs.Choosing.{bytes_of, excess, IsSpared, MayStop}
 

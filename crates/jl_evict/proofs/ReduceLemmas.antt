@@ -10,12 +10,12 @@ use Rattle.jl_folder.specs.State.{State, Trace, History, Opens, IsState, IsHisto
 use Rattle.jl_folder.specs.Calls.{Waits}
 use Rattle.jl_folder.proofs.StateKept.{IsState-run}
 use Rattle.jl_entry.specs.Names.{IsBelow, below}
-use Rattle.jl_claims.specs.Claims.{Anywhere}
-use Rattle.jl_claims.specs.Steps.{IsLone}
-use Rattle.jl_claims.proofs.Composed.{goes_waits}
-use Rattle.jl_claims.proofs.Alone.{lone_parts, waits_alone}
-use Rattle.jl_limits.specs.declared.limits.Limits.{Limits}
-use Rattle.jl_laws.specs.Tidy.{IsTidy}
+use Rattle.jl_rely.specs.Claims.{Anywhere}
+use Rattle.jl_rely.specs.Steps.{IsLone}
+use Rattle.jl_rely.proofs.Composed.{goes_waits}
+use Rattle.jl_rely.proofs.Alone.{lone_parts, waits_alone}
+use Rattle.jl_quota.specs.declared.limits.Limits.{Limits}
+use Rattle.jl_protocol.specs.Tidy.{IsTidy}
 use Rattle.jl_clear.specs.Doing.{Does}
 use Rattle.jl_clear.proofs.DoingLemmas.{later_rose, does_then, does_as, does_waits, goes_does}
 use Rattle.jl_clear.specs.Taking.{IsEntryFolder, IsTaking, IsTakenAway}

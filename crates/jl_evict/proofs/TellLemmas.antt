@@ -4,10 +4,10 @@ use Rattle.jl_text.specs.Counts.{Rose}
 use Rattle.jl_folder.specs.declared.moves.Move.{Move}
 use Rattle.jl_folder.specs.State.{State, Trace, History, Opens, IsState, IsForeign, now, since, run}
 use Rattle.jl_folder.specs.Calls.{Call, Waits}
-use Rattle.jl_claims.specs.Claims.{Silent}
-use Rattle.jl_claims.specs.Steps.{OwnMoves, IsLone}
-use Rattle.jl_claims.proofs.Since.{now_went}
-use Rattle.jl_claims.proofs.Alone.{moves_alone, lone_parts}
+use Rattle.jl_rely.specs.Claims.{Silent}
+use Rattle.jl_rely.specs.Steps.{OwnMoves, IsLone}
+use Rattle.jl_rely.proofs.Since.{now_went}
+use Rattle.jl_rely.proofs.Alone.{moves_alone, lone_parts}
 use Rattle.jl_clear.specs.Doing.{Moves}
 use Rattle.jl_clear.proofs.DoingLemmas.{rose_later, later_rose, moves_went, does_none, does_then, does_call, does_waits, goes_does}
 use Rattle.jl_evict.specs.Walks.{Tells}

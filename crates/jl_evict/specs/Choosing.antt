@@ -3,7 +3,7 @@ use Rattle.std.specs.Prelude.{◌≡◌, ◌⊎◌, ℕ, ◌-◌, ◌≤◌, ◌
 use Rattle.std.specs.Ordering.{nat_cmp, then_cmp}
 use Rattle.std.specs.Cmp.Lexicographic.{slice_cmp}
 use Rattle.std.specs.declared.cmp.Ordering.{Ordering}
-use Rattle.jl_limits.specs.declared.limits.Limits.{Limits}
+use Rattle.jl_quota.specs.declared.limits.Limits.{Limits}
 use Rattle.jl_evict.specs.declared.item.Item.{Item}
 
 -- used less lately, or at one moment and with the path that comes first in byte order

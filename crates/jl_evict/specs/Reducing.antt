@@ -4,9 +4,9 @@ use Rattle.std.specs.List.Sorted.{IsPermutation, IsSorted}
 use Rattle.jl_text.specs.Paths.{PathView, path_of}
 use Rattle.jl_folder.specs.State.{State, Trace, History, Opens}
 use Rattle.jl_entry.specs.Names.{IsBelow, below}
-use Rattle.jl_claims.specs.Steps.{OwnMoves}
-use Rattle.jl_claims.specs.Claims.{Anywhere}
-use Rattle.jl_limits.specs.declared.limits.Limits.{Limits}
+use Rattle.jl_rely.specs.Steps.{OwnMoves}
+use Rattle.jl_rely.specs.Claims.{Anywhere}
+use Rattle.jl_quota.specs.declared.limits.Limits.{Limits}
 use Rattle.jl_clear.specs.Taking.{IsTaking, IsTakenAway}
 use Rattle.jl_clear.specs.Clearing.{Clears}
 use Rattle.jl_evict.specs.declared.item.Item.{Item}

@@ -12,8 +12,8 @@ use Rattle.jl_folder.specs.State.{State, History, Opens, IsState, is_folder, now
 use Rattle.jl_folder.specs.Listing.{ListsNames}
 use Rattle.jl_entry.specs.Moments.{IsAccess}
 use Rattle.jl_entry.specs.Names.{IsBelow, below}
-use Rattle.jl_claims.specs.Claims.{Silent}
-use Rattle.jl_claims.specs.Steps.{IsLone}
+use Rattle.jl_rely.specs.Claims.{Silent}
+use Rattle.jl_rely.specs.Steps.{IsLone}
 use Rattle.jl_clear.specs.Doing.{Does}
 use Rattle.jl_evict.specs.declared.item.Item.{Item}
 use Rattle.jl_evict.specs.declared.measure.Measure.{Measure}

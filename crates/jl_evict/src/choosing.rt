@@ -4,7 +4,7 @@ ghost use Rattle.std.specs.List.Sorted.{IsPermutation, IsSorted};
 ghost use Rattle.jl_evict.specs.Choosing.{item_cmp, bytes_of, excess, IsSpared, IsShortest};
 
 use crate::item::Item;
-use jl_limits::Limits;
+use jl_quota::Limits;
 use std::cmp::Ordering;
 
 // The item that goes first is the one that was used less lately; of two, the one whose path comes first.

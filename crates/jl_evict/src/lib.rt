@@ -10,7 +10,7 @@ mod walk;
 
 pub use choosing::choose;
 pub use item::Item;
-pub use jl_limits::Limits;
+pub use jl_quota::Limits;
 pub use reading::{ItemsRead, items};
 pub use reducing::{Reduced, reduce_size};
 

@@ -3,7 +3,7 @@ ghost use Rattle.std.specs.Prelude.{◌≡◌, ◌++◌, ◌∷◌, [], All, IsT
 ghost use Rattle.jl_text.specs.Paths.{is_part};
 ghost use Rattle.jl_entry.specs.Names.{entry_part};
 ghost use Rattle.jl_entry.specs.declared.names.EntryFile.{EntryFile};
-ghost use Rattle.jl_claims.specs.Claims.{Anywhere};
+ghost use Rattle.jl_rely.specs.Claims.{Anywhere};
 ghost use Rattle.jl_evict.specs.Walks.{Tells, IsMeasured, IsMeasureFault, measure_of, IsAccessOf, Sized, Summed, Accessed};
 
 use jl_entry::read_access;

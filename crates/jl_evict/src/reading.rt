@@ -4,7 +4,7 @@ ghost use Rattle.jl_text.specs.Counts.{Faults};
 ghost use Rattle.jl_folder.specs.State.{now, since};
 ghost use Rattle.jl_folder.specs.Calls.{Waits};
 ghost use Rattle.jl_entry.specs.Names.{root_of};
-ghost use Rattle.jl_claims.specs.Steps.{IsLone};
+ghost use Rattle.jl_rely.specs.Steps.{IsLone};
 ghost use Rattle.jl_evict.specs.Reducing.{HavePaths, AreRead};
 ghost use Rattle.jl_evict.specs.Walks.{IsAt, IsRootParts};
 

@@ -4,11 +4,11 @@ ghost use Rattle.jl_text.specs.Paths.{path_of, is_part};
 ghost use Rattle.jl_text.specs.Counts.{Faults};
 ghost use Rattle.jl_folder.specs.State.{now as latest, since};
 ghost use Rattle.jl_entry.specs.Names.{below, root_of};
-ghost use Rattle.jl_claims.specs.Steps.{IsLone};
-ghost use Rattle.jl_claims.specs.Claims.{Called, Anywhere};
-ghost use Rattle.jl_laws.specs.Whole.{Answers};
-ghost use Rattle.jl_laws.specs.Proper.{IsProper, IsLawful};
-ghost use Rattle.jl_laws.specs.Tidy.{IsTidy, IsSound};
+ghost use Rattle.jl_rely.specs.Steps.{IsLone};
+ghost use Rattle.jl_rely.specs.Claims.{Called, Anywhere};
+ghost use Rattle.jl_protocol.specs.Whole.{Answers};
+ghost use Rattle.jl_protocol.specs.Proper.{IsProper, IsLawful};
+ghost use Rattle.jl_protocol.specs.Tidy.{IsTidy, IsSound};
 ghost use Rattle.jl_clear.specs.Doing.{AnyMove};
 ghost use Rattle.jl_clear.specs.Taking.{IsTaking};
 ghost use Rattle.jl_clear.specs.Clearing.{Clears};
@@ -22,7 +22,7 @@ use crate::reading::{ItemsRead, items};
 use jl_clear::{Clear, clear_entry};
 use jl_entry::root;
 use jl_folder::{Folder, Path, PathFault, Text};
-use jl_limits::Limits;
+use jl_quota::Limits;
 use std::alloc::{AllocError, Global};
 
 /// The answer of `reduce_size`: how many items were chosen, and how many bytes they had.

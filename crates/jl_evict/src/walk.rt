@@ -2,7 +2,7 @@
 ghost use Rattle.std.specs.Prelude.{◌≡◌, ◌++◌, ◌∷◌, [], All, IsTrue, IfOk};
 ghost use Rattle.jl_text.specs.Paths.{PathView, is_part};
 ghost use Rattle.jl_entry.specs.Names.{IsBelow};
-ghost use Rattle.jl_claims.specs.Claims.{Anywhere};
+ghost use Rattle.jl_rely.specs.Claims.{Anywhere};
 ghost use Rattle.jl_evict.specs.Items.{IsEntryParts};
 ghost use Rattle.jl_evict.specs.Walks.{Adds, Pushes, IsAt, IsSizedEntry, Listing, Under, AreDistinct, IsRootParts, IsModuleParts, IsFunctionParts};
 

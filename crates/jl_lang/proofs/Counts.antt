@@ -4,15 +4,15 @@ use Rattle.std.specs.Prelude.{nat_lt, if◌then◌else◌, Result, Ok, Err}
 use Rattle.jl_value.specs.Tree.{Tree, truth, list as listing, table as tabling, items_of, members_of}
 use Rattle.jl_value.specs.declared.library.TaskError.{TaskError}
 use Rattle.jl_value.specs.declared.library.TaskError.TheVariants.{TooLong}
-use Rattle.jl_signs.specs.declared.operators.Operator.{Operator}
-use Rattle.jl_signs.specs.Words.{constant_of, key_in}
+use Rattle.jl_lexer.specs.declared.operators.Operator.{Operator}
+use Rattle.jl_lexer.specs.Words.{constant_of, key_in}
 use Rattle.jl_syntax.specs.Trees.{Expression, tall, leaf, bracketed, before, between, choice, index, call, span, list, each, filtered, table, Members, no_members, member, Entries, no_entries, entry}
-use Rattle.jl_operations.specs.declared.settled.Settled.{Settled}
-use Rattle.jl_operations.specs.declared.settled.Settled.TheVariants.{Known, Open, Wrong, Both}
-use Rattle.jl_operations.specs.Steps.{Ran, done, failed, then', counted, operated, weight}
-use Rattle.jl_operations.specs.Operations.{operation, prefixed, element_of, settle}
-use Rattle.jl_operations.specs.Calls.{call_value, range_of}
-use Rattle.jl_operations.specs.Lists.{source_of, each_over, picked, filtered_over, over, with_entry}
+use Rattle.jl_builtins.specs.declared.settled.Settled.{Settled}
+use Rattle.jl_builtins.specs.declared.settled.Settled.TheVariants.{Known, Open, Wrong, Both}
+use Rattle.jl_builtins.specs.Steps.{Ran, done, failed, then', counted, operated, weight}
+use Rattle.jl_builtins.specs.Operations.{operation, prefixed, element_of, settle}
+use Rattle.jl_builtins.specs.Calls.{call_value, range_of}
+use Rattle.jl_builtins.specs.Lists.{source_of, each_over, picked, filtered_over, over, with_entry}
 use Rattle.jl_lang.specs.Meaning.{argument, named, word_value, truth_counted, settled, chosen, value_of, members_value, entries_value}
 
 abbrev IsLow : Ran → Type 0

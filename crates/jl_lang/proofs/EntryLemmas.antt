@@ -14,13 +14,13 @@ use Rattle.jl_value.specs.Form.{tree_of}
 use Rattle.jl_value.specs.Canonical.{array_key}
 use Rattle.jl_value.specs.Proper.{AreKeys, keys}
 use Rattle.jl_value.specs.declared.value.Value.{Value}
-use Rattle.jl_signs.specs.Words.{key_in}
+use Rattle.jl_lexer.specs.Words.{key_in}
 use Rattle.jl_syntax.specs.Trees.{Expression, entries_of}
-use Rattle.jl_operations.specs.Steps.{Ran, done, then'}
-use Rattle.jl_operations.specs.Lists.{with_entry}
+use Rattle.jl_builtins.specs.Steps.{Ran, done, then'}
+use Rattle.jl_builtins.specs.Lists.{with_entry}
 use Rattle.jl_lang.specs.Meaning.{value_of, entries_value}
-use Rattle.jl_operations.specs.Outcomes.{pairs_in}
-use Rattle.jl_operations.specs.TableLaws.{IfKey, key_good, keys_more}
+use Rattle.jl_builtins.specs.Outcomes.{pairs_in}
+use Rattle.jl_builtins.specs.TableLaws.{IfKey, key_good, keys_more}
 
 pairs_by : {Y : Type 0} (r : Ordering) (e : String Y × Value) (es : List (String Y × Value)) (k : String Y) (v : Value)
     → pairs_in (insert_entry string_cmp es k v) ≡ insert_entry (slice_cmp nat_cmp) (pairs_in es) (string_bytes k) (tree_of v)

@@ -5,13 +5,13 @@ use Rattle.std.proofs.lemmas.List.{at_drop_more}
 use Rattle.jl_value.specs.Tree.{Tree}
 use Rattle.jl_value.specs.Form.{tree_of, trees_of}
 use Rattle.jl_value.specs.declared.value.Value.{Value}
-use Rattle.jl_operations.specs.declared.fault.CallFault.{CallFault}
-use Rattle.jl_operations.specs.declared.fault.CallFault.TheVariants.{Task, NoMemory}
-use Rattle.jl_operations.specs.declared.counting.Counted.{Counted}
+use Rattle.jl_builtins.specs.declared.fault.CallFault.{CallFault}
+use Rattle.jl_builtins.specs.declared.fault.CallFault.TheVariants.{Task, NoMemory}
+use Rattle.jl_builtins.specs.declared.counting.Counted.{Counted}
 use Rattle.jl_lang.specs.declared.evaluator.Taken.{Taken}
-use Rattle.jl_operations.specs.Steps.{Ran}
-use Rattle.jl_operations.specs.Lists.{taking, filtered_over}
-use Rattle.jl_operations.specs.Outcomes.{IsRan, IsFailing}
+use Rattle.jl_builtins.specs.Steps.{Ran}
+use Rattle.jl_builtins.specs.Lists.{taking, filtered_over}
+use Rattle.jl_builtins.specs.Outcomes.{IsRan, IsFailing}
 use Rattle.jl_lang.specs.Outcomes.{IsTaken, IsLeft}
 
 -- the next member of what is left

@@ -10,20 +10,20 @@ use Rattle.jl_value.specs.Key.{args_tree}
 use Rattle.jl_value.specs.Proper.{IsProper, HasProper}
 use Rattle.jl_value.specs.Library.{Answer, value, error, IsWithin}
 use Rattle.jl_value.specs.declared.library.TaskError.TheVariants.{NoArgument, ExtraArgument, TooLong, TooDeep}
-use Rattle.jl_signs.specs.declared.operators.Operator.{Operator}
-use Rattle.jl_signs.specs.Signs.{is_digit}
-use Rattle.jl_signs.specs.Words.{is_number, number_behind, has_leading_zero, true_word, false_word, none_word, if_text, quoted_in, text_in, named_constant, constant_of, key_in}
+use Rattle.jl_lexer.specs.declared.operators.Operator.{Operator}
+use Rattle.jl_lexer.specs.Signs.{is_digit}
+use Rattle.jl_lexer.specs.Words.{is_number, number_behind, has_leading_zero, true_word, false_word, none_word, if_text, quoted_in, text_in, named_constant, constant_of, key_in}
 use Rattle.jl_syntax.specs.Trees.{Expression, tall, leaf, bracketed, before, between, choice, index, call, span, list as listed, each, filtered, table as tabled, Members as Listing, no_members as none_listed, member as listing, Entries, no_entries, entry}
 use Rattle.jl_module.specs.Headings.{Reading, bad, good, definition_in}
-use Rattle.jl_operations.specs.declared.settled.Settled.{Settled}
-use Rattle.jl_operations.specs.declared.settled.Settled.TheVariants.{Known, Open, Wrong, Both}
-use Rattle.jl_operations.specs.Steps.{Ran, done, failed}
-use Rattle.jl_operations.specs.Operations.{operation, prefixed, element_of, settle}
-use Rattle.jl_operations.specs.Calls.{range_of, call_value}
-use Rattle.jl_operations.specs.TableLaws.{key_good, IsTable, empty_table, entry_table}
-use Rattle.jl_operations.specs.Lists.{source_of, with_entry}
+use Rattle.jl_builtins.specs.declared.settled.Settled.{Settled}
+use Rattle.jl_builtins.specs.declared.settled.Settled.TheVariants.{Known, Open, Wrong, Both}
+use Rattle.jl_builtins.specs.Steps.{Ran, done, failed}
+use Rattle.jl_builtins.specs.Operations.{operation, prefixed, element_of, settle}
+use Rattle.jl_builtins.specs.Calls.{range_of, call_value}
+use Rattle.jl_builtins.specs.TableLaws.{key_good, IsTable, empty_table, entry_table}
+use Rattle.jl_builtins.specs.Lists.{source_of, with_entry}
 use Rattle.jl_lang.specs.Meaning.{argument, named, word_value, truth_counted, settled, again, chosen, value_of, members_value, entries_value, limited, has_arguments, has_parameters, answered, answer_of}
-use Rattle.jl_operations.specs.ProperLaws.{IsDone, AllProper, counted_proper, then_proper, operated_proper, operation_proper, prefixed_proper, element_proper, range_proper, call_proper, all_items, all_more, source_proper, over_proper, each_proper, filtered_proper}
+use Rattle.jl_builtins.specs.ProperLaws.{IsDone, AllProper, counted_proper, then_proper, operated_proper, operation_proper, prefixed_proper, element_proper, range_proper, call_proper, all_items, all_more, source_proper, over_proper, each_proper, filtered_proper}
 
 -- ---- what a word writes is proper
 

@@ -6,16 +6,16 @@ use Rattle.jl_value.specs.Tree.{Tree, truth, list, table, items_of, members_of, 
 use Rattle.jl_value.specs.Canonical.{text_of}
 use Rattle.jl_value.specs.Library.{Answer, value, error}
 use Rattle.jl_value.specs.declared.library.TaskError.TheVariants.{NoArgument, ExtraArgument, BadKind, TooLong, TooDeep}
-use Rattle.jl_signs.specs.declared.operators.Operator.{Operator}
-use Rattle.jl_signs.specs.Words.{constant_of, key_in}
+use Rattle.jl_lexer.specs.declared.operators.Operator.{Operator}
+use Rattle.jl_lexer.specs.Words.{constant_of, key_in}
 use Rattle.jl_syntax.specs.Trees.{Expression, tall, leaf, bracketed, before, between, choice, index, call, span, list as listed, each, filtered, table as tabled, Members, no_members, member, Entries, no_entries, entry}
 use Rattle.jl_module.specs.Headings.{Definition, Reading, bad, good, definition_in}
-use Rattle.jl_operations.specs.declared.settled.Settled.{Settled}
-use Rattle.jl_operations.specs.declared.settled.Settled.TheVariants.{Known, Open, Wrong, Both}
-use Rattle.jl_operations.specs.Steps.{Ran, done, failed, then', counted, operated}
-use Rattle.jl_operations.specs.Operations.{operation, prefixed, element_of, settle}
-use Rattle.jl_operations.specs.Calls.{call_value, range_of}
-use Rattle.jl_operations.specs.Lists.{source_of, each_over, filtered_over, over, with_entry}
+use Rattle.jl_builtins.specs.declared.settled.Settled.{Settled}
+use Rattle.jl_builtins.specs.declared.settled.Settled.TheVariants.{Known, Open, Wrong, Both}
+use Rattle.jl_builtins.specs.Steps.{Ran, done, failed, then', counted, operated}
+use Rattle.jl_builtins.specs.Operations.{operation, prefixed, element_of, settle}
+use Rattle.jl_builtins.specs.Calls.{call_value, range_of}
+use Rattle.jl_builtins.specs.Lists.{source_of, each_over, filtered_over, over, with_entry}
 
 -- the argument of a name
 abbrev pub argument : List ℕ → List (List ℕ × Tree) → Option Tree

@@ -3,10 +3,10 @@ use Rattle.std.specs.Prelude.{◌≡◌, ◌≤◌, ℕ, List, ⊤}
 use Rattle.jl_value.specs.Tree.{Tree}
 use Rattle.jl_value.specs.Form.{trees_of}
 use Rattle.jl_value.specs.Library.{Answer, error}
-use Rattle.jl_operations.specs.declared.fault.CallFault.{CallFault}
-use Rattle.jl_operations.specs.declared.fault.CallFault.TheVariants.{Task, NoMemory}
-use Rattle.jl_operations.specs.Steps.{Ran, failed}
-use Rattle.jl_operations.specs.Lists.{taking}
+use Rattle.jl_builtins.specs.declared.fault.CallFault.{CallFault}
+use Rattle.jl_builtins.specs.declared.fault.CallFault.TheVariants.{Task, NoMemory}
+use Rattle.jl_builtins.specs.Steps.{Ran, failed}
+use Rattle.jl_builtins.specs.Lists.{taking}
 use Rattle.jl_lang.specs.declared.evaluator.Taken.{Taken}
 
 abbrev pub IsError : CallFault → Answer → Type 0

@@ -1,21 +1,21 @@
 ghost use Rattle.std.specs.Prelude.{◌≤◌, ◌∷◌, [], Some, None, MatchResult};
 ghost use Rattle.jl_value.specs.Form.{tree_of, trees_of};
-ghost use Rattle.jl_signs.specs.Words.{constant_of};
+ghost use Rattle.jl_lexer.specs.Words.{constant_of};
 ghost use Rattle.jl_syntax.specs.Trees.{before as before_tree, between as between_tree, choice as choice_tree, index as index_tree, call as call_tree, span as span_tree, each as each_tree, filtered as filtered_tree, members_of, entries_of as entries_in};
-ghost use Rattle.jl_operations.specs.declared.settled.Settled.TheVariants.{Both};
+ghost use Rattle.jl_builtins.specs.declared.settled.Settled.TheVariants.{Both};
 ghost use Rattle.jl_lang.specs.Meaning.{argument as argument_of, named as named_of, word_value as word_value_of, truth_counted as truth_counted_of, again, settled as settled_of, value_of, members_value, entries_value};
-ghost use Rattle.jl_operations.specs.Operations.{settle as settle_of};
+ghost use Rattle.jl_builtins.specs.Operations.{settle as settle_of};
 ghost use Rattle.jl_lang.specs.Scopes.{scope_of};
-ghost use Rattle.jl_operations.specs.Lists.{each_over as each_over_of, filtered_over as filtered_over_of};
-ghost use Rattle.jl_operations.specs.Outcomes.{IsRan, IsFailing};
+ghost use Rattle.jl_builtins.specs.Lists.{each_over as each_over_of, filtered_over as filtered_over_of};
+ghost use Rattle.jl_builtins.specs.Outcomes.{IsRan, IsFailing};
 ghost use Rattle.jl_lang.specs.Outcomes.{IsTaken, IsLeft};
 
 use crate::scope::Scope;
-use jl_operations::{
+use jl_builtins::{
     CallFault, Counted, Settled, call, count_value, counted_copy, element, operation, prefixed,
     settle, source, span, table,
 };
-use jl_signs::{Function, Key, Name, Operator, Prefix, Word};
+use jl_lexer::{Function, Key, Name, Operator, Prefix, Word};
 use jl_syntax::{Node, Tree};
 use jl_value::{List, TaskError, Value};
 use std::alloc::Global;

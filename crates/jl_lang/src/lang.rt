@@ -2,15 +2,15 @@ ghost use Rattle.std.specs.Prelude.{◌≡◌, [], Some, MatchResult, IfOk, map,
 ghost use Rattle.jl_value.specs.Form.{tree_of, entries_of};
 ghost use Rattle.jl_value.specs.Canonical.{text_of};
 ghost use Rattle.jl_value.specs.Library.{value as answered_value, IfDone};
-ghost use Rattle.jl_operations.specs.Steps.{done};
+ghost use Rattle.jl_builtins.specs.Steps.{done};
 ghost use Rattle.jl_lang.specs.Meaning.{has_argument as has_argument_of, has_arguments as has_arguments_of, has_parameters as has_parameters_of, limited as limited_of, called as called_of, answer_of, value_of};
 ghost use Rattle.jl_module.specs.Lines.{definition_read};
 ghost use Rattle.jl_lang.specs.Outcomes.{IsError};
 
 use crate::evaluator::evaluate;
 use crate::scope::Scope;
+use jl_builtins::{CallFault, Counted, nests_within};
 use jl_module::{Definition, LineFault, Names, find, module_fault, read_definition};
-use jl_operations::{CallFault, Counted, nests_within};
 use jl_syntax::Tree;
 use jl_text::Text;
 use jl_value::{Args, Called, CodeRef, Library, Outcome, ReadModule, TaskError, Value, canonical};

@@ -3,8 +3,8 @@ use Rattle.std.proofs.Common.{◌≡◌, ◌≢◌, ℕ, zero, suc, ◌+◌, ◌
 use Rattle.std.specs.List.{onto_first}
 use Rattle.std.specs.Prelude.{nat_eq}
 use Rattle.std.specs.Str.{is_utf8}
-use Rattle.jl_signs.specs.Signs.{signs, begins_word}
-use Rattle.jl_signs.proofs.SignLemmas.{rest_is}
+use Rattle.jl_lexer.specs.Signs.{signs, begins_word}
+use Rattle.jl_lexer.proofs.SignLemmas.{rest_is}
 use Rattle.jl_module.specs.Modules.{lines, is_trailing, before_end, trimmed, begins_definition, defines_in}
 
 newline : (b : ℕ) (bs : List ℕ) → b ≡ 10 → lines (b ∷ bs) ≡ [] ∷ lines bs

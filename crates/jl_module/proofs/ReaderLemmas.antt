@@ -1,9 +1,9 @@
 -- How signs are read, one after another.
 use Rattle.std.proofs.Common.{◌≡◌, ℕ, true, false, List, [], ◌∷◌, ◌++◌, ap, ◌∙◌}
 use Rattle.std.proofs.lemmas.Slice.Eq.{bytes_eq-Decides}
-use Rattle.jl_signs.specs.Words.{is_identifier}
+use Rattle.jl_lexer.specs.Words.{is_identifier}
 use Rattle.jl_module.specs.Headings.{more_parameters}
-use Rattle.jl_signs.specs.Marks.{is_mark}
+use Rattle.jl_lexer.specs.Marks.{is_mark}
 
 -- a comma and a name go on
 pub parameter_on : (ps : List (List ℕ)) (ws vs us : List (List ℕ)) (s n : List ℕ) → ws ≡ s ∷ vs → vs ≡ n ∷ us → is_mark 41 s ≡ false → is_mark 44 s ≡ true → is_identifier n ≡ true → more_parameters ps ws ≡ more_parameters (ps ++ n ∷ []) us

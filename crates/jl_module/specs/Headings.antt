@@ -4,9 +4,9 @@ use Rattle.std.specs.List.{list_any}
 use Rattle.std.specs.Str.{bytes_eq}
 use Rattle.jl_value.specs.declared.library.ModuleFaultKind.{ModuleFaultKind}
 use Rattle.jl_value.specs.declared.library.ModuleFaultKind.TheVariants.{BadLine, BadName, TooDeep}
-use Rattle.jl_signs.specs.Signs.{signs, begins_word}
-use Rattle.jl_signs.specs.Words.{def_word, is_identifier}
-use Rattle.jl_signs.specs.Marks.{is_mark}
+use Rattle.jl_lexer.specs.Signs.{signs, begins_word}
+use Rattle.jl_lexer.specs.Words.{def_word, is_identifier}
+use Rattle.jl_lexer.specs.Marks.{is_mark}
 use Rattle.jl_syntax.specs.Trees.{Expression, tall, leaf, bracketed, before, between, choice, index, call, span, list, each, filtered, table, Members, no_members, member, Entries, no_entries, entry, height}
 use Rattle.jl_syntax.specs.Machine.{Read, read, broken, nested_deep, read_signs}
 

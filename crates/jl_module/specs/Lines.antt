@@ -6,7 +6,7 @@ use Rattle.jl_module.specs.declared.fault.LineFault.TheVariants.{Faulty, Memory}
 use Rattle.jl_module.specs.declared.reader.Next.{Next}
 use Rattle.jl_module.specs.declared.reader.Next.TheVariants.{Closed, Parameter, Bad}
 use Rattle.jl_module.specs.declared.reader.Head.{Head}
-use Rattle.jl_signs.specs.Signs.{signs}
+use Rattle.jl_lexer.specs.Signs.{signs}
 use Rattle.jl_module.specs.declared.reader.Definition.{Definition as Read}
 use Rattle.jl_syntax.specs.Trees.{Expression, height}
 use Rattle.jl_syntax.specs.Machine.{read, read_signs}

@@ -8,7 +8,7 @@ use Rattle.std.proofs.lemmas.Str.{IsUtf8-append, IsUtf8-nil, IsUtf8-from_is_utf8
 use Rattle.jl_text.specs.Texts.{is_name}
 use Rattle.jl_value.specs.declared.library.ModuleFault.{ModuleFault}
 use Rattle.jl_value.specs.declared.library.ModuleFaultKind.TheVariants.{BadLine}
-use Rattle.jl_signs.specs.Words.{is_identifier}
+use Rattle.jl_lexer.specs.Words.{is_identifier}
 use Rattle.jl_module.specs.Modules.{lines, trimmed, before_end, is_trailing, Line, remark, faulty, defines, read_line, after_line, first_fault, fault_of, begins_definition, Found, find_from, find, code_in, line_in}
 
 -- ---- names

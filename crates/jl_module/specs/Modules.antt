@@ -6,8 +6,8 @@ use Rattle.std.specs.Str.{bytes_eq, is_utf8}
 use Rattle.jl_value.specs.declared.library.ModuleFault.{ModuleFault}
 use Rattle.jl_value.specs.declared.library.ModuleFaultKind.{ModuleFaultKind}
 use Rattle.jl_value.specs.declared.library.ModuleFaultKind.TheVariants.{BadLine, Twice, TooLarge}
-use Rattle.jl_signs.specs.Signs.{is_gap, signs, begins_word}
-use Rattle.jl_signs.specs.Words.{def_word, is_identifier}
+use Rattle.jl_lexer.specs.Signs.{is_gap, signs, begins_word}
+use Rattle.jl_lexer.specs.Words.{def_word, is_identifier}
 use Rattle.jl_module.specs.Headings.{Reading, bad, good, definition_in}
 
 -- the lines, between newlines

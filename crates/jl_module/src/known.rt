@@ -7,7 +7,7 @@ ghost use Rattle.jl_module.specs.Headings.{are_known as are_known_of, members_kn
 ghost use Rattle.jl_module.specs.Scopes.{names_among};
 
 use crate::names::Names;
-use jl_signs::{Key, Name, Word, is_identifier};
+use jl_lexer::{Key, Name, Word, is_identifier};
 use jl_syntax::{Node, Tree};
 use std::alloc::{AllocError, Global};
 

@@ -1,13 +1,13 @@
 ghost use Rattle.std.specs.Prelude.{◌≡◌, ◌≤◌, ◌<◌, ◌∷◌, [], ℕ, length, Some, None, IfOk, MatchOption, MatchResult, true, false};
 ghost use Rattle.std.specs.Str.{is_utf8};
 ghost use Rattle.jl_module.specs.Modules.{lines, is_trailing as is_trailing_of, trimmed as trimmed_of, is_remark as is_remark_of, read_line as read_line_of, first_fault, fault_of, defines_in as defines_in_of, begins_definition, find as find_of, find_from};
-ghost use Rattle.jl_signs.specs.Signs.{signs};
+ghost use Rattle.jl_lexer.specs.Signs.{signs};
 ghost use Rattle.jl_module.specs.Checks.{line_with, IsFaulty, IsChecked};
 
 use crate::fault::LineFault;
 use crate::names::Names;
 use crate::reader::read_definition;
-use jl_signs::{begins_word, is_def, is_gap, is_identifier, next_sign};
+use jl_lexer::{begins_word, is_def, is_gap, is_identifier, next_sign};
 use jl_value::{ModuleFault, ModuleFaultKind};
 use std::alloc::{AllocError, Global};
 use std::str::from_utf8;

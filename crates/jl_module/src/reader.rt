@@ -1,12 +1,12 @@
 ghost use Rattle.std.specs.Prelude.{◌≡◌, ◌∷◌, [], Some, None, MatchResult, MatchOption};
-ghost use Rattle.jl_signs.specs.Signs.{signs};
+ghost use Rattle.jl_lexer.specs.Signs.{signs};
 ghost use Rattle.jl_module.specs.Headings.{more_parameters as more_parameters_of, parameters_in, heading_of, definition_in};
 ghost use Rattle.jl_module.specs.Lines.{IsMissing, IsFault, IsNext, IsNameless, IsNamed, heading_read, IsDefinition, IsBody, IsNoBody};
 
 use crate::fault::LineFault;
 use crate::known::are_known;
 use crate::names::{Names, has_repeat};
-use jl_signs::{begins_word, is_def, is_identifier, is_mark, next_sign};
+use jl_lexer::{begins_word, is_def, is_identifier, is_mark, next_sign};
 use jl_syntax::{Stop, Tree, read_expression};
 use jl_value::ModuleFaultKind;
 use std::alloc::Global;

@@ -6,15 +6,15 @@ use Rattle.jl_folder.specs.State.{State, Trace, History, AtSome, place_at, node_
 use Rattle.jl_folder.proofs.Traces.{run-append}
 use Rattle.jl_folder.proofs.ReadingLemmas.{IsUnwritten-split}
 use Rattle.jl_value.specs.Key.{key_of}
-use Rattle.jl_claims.specs.Steps.{AllSteps}
-use Rattle.jl_claims.specs.Claims.{GoesOn, Anywhere}
-use Rattle.jl_claims.specs.Touches.{TouchedByOther}
-use Rattle.jl_claims.proofs.Since.{since_then, now_went, went_since}
-use Rattle.jl_claims.proofs.Traces.{AllSteps-left, AllSteps-right}
-use Rattle.jl_claims.proofs.Causes.{touched_later, touched_sooner}
-use Rattle.jl_laws.specs.Proper.{IsProper}
-use Rattle.jl_laws.specs.Tidy.{IsTidy}
-use Rattle.jl_laws.proofs.Kills.{tidy_at_end}
+use Rattle.jl_rely.specs.Steps.{AllSteps}
+use Rattle.jl_rely.specs.Claims.{GoesOn, Anywhere}
+use Rattle.jl_rely.specs.Touches.{TouchedByOther}
+use Rattle.jl_rely.proofs.Since.{since_then, now_went, went_since}
+use Rattle.jl_rely.proofs.Traces.{AllSteps-left, AllSteps-right}
+use Rattle.jl_rely.proofs.Causes.{touched_later, touched_sooner}
+use Rattle.jl_protocol.specs.Proper.{IsProper}
+use Rattle.jl_protocol.specs.Tidy.{IsTidy}
+use Rattle.jl_protocol.proofs.Kills.{tidy_at_end}
 use Rattle.jl_clear.proofs.DoingLemmas.{rose_later, later_rose}
 use Rattle.jl_store.specs.Looking.{OpenedHas}
 use Rattle.jl_store.specs.Next.{Asked, output_asked}

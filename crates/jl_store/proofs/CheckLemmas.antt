@@ -12,15 +12,15 @@ use Rattle.jl_folder.proofs.ReadingLemmas.{IsUnwritten-split}
 use Rattle.jl_entry.specs.Codes.{IsSameCode}
 use Rattle.jl_entry.specs.Names.{Final, code_of, IsFinal, IsTemp}
 use Rattle.jl_entry.proofs.NameFacts.{final_one_way}
-use Rattle.jl_claims.specs.Steps.{OwnMoves}
-use Rattle.jl_claims.specs.Claims.{GoesOn, Called, Anywhere}
-use Rattle.jl_claims.proofs.Traces.{Throughout-weaken, OwnMoves-append, foreign_own}
-use Rattle.jl_claims.proofs.Since.{since_went, since_then, went_since, went_on, goes_on}
-use Rattle.jl_claims.proofs.Composed.{goes_waits, went_waits, waits_called, then_called, called_for, either_then, carried_stable, not_called}
-use Rattle.jl_laws.specs.Whole.{most_bytes, Answers, IsTruthful}
-use Rattle.jl_laws.specs.Tidy.{IsTidy}
-use Rattle.jl_laws.specs.Proper.{IsProper, IsLawful, RenamesTrue, LawfulThroughout}
-use Rattle.jl_laws.proofs.Kills.{tidy_carried}
+use Rattle.jl_rely.specs.Steps.{OwnMoves}
+use Rattle.jl_rely.specs.Claims.{GoesOn, Called, Anywhere}
+use Rattle.jl_rely.proofs.Traces.{Throughout-weaken, OwnMoves-append, foreign_own}
+use Rattle.jl_rely.proofs.Since.{since_went, since_then, went_since, went_on, goes_on}
+use Rattle.jl_rely.proofs.Composed.{goes_waits, went_waits, waits_called, then_called, called_for, either_then, carried_stable, not_called}
+use Rattle.jl_protocol.specs.Whole.{most_bytes, Answers, IsTruthful}
+use Rattle.jl_protocol.specs.Tidy.{IsTidy}
+use Rattle.jl_protocol.specs.Proper.{IsProper, IsLawful, RenamesTrue, LawfulThroughout}
+use Rattle.jl_protocol.proofs.Kills.{tidy_carried}
 use Rattle.jl_clear.specs.Doing.{Does}
 use Rattle.jl_clear.specs.Taking.{IsFunctionFolder}
 use Rattle.jl_clear.proofs.DoingLemmas.{later_rose, moves_called, does_none}

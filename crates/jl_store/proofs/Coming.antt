@@ -7,7 +7,7 @@ use Rattle.jl_value.specs.Form.{tree_of}
 use Rattle.jl_value.specs.Library.{Answer}
 use Rattle.jl_value.specs.declared.value.Value.{Value}
 use Rattle.jl_entry.specs.Entry.{Members}
-use Rattle.jl_claims.specs.Claims.{GoesOn}
+use Rattle.jl_rely.specs.Claims.{GoesOn}
 use Rattle.jl_clear.proofs.DoingLemmas.{rose_later, later_rose}
 use Rattle.jl_store.specs.Cached.{ComesBy, ComesTidy, IsMissed}
 use Rattle.jl_store.specs.Looking.{Finds, Missing, absent, failed, other, damaged, IsMissing, StandsWith, Stands}

@@ -6,7 +6,7 @@ use Rattle.jl_value.specs.declared.key.Key.{Key}
 use Rattle.jl_value.specs.declared.value.Value.{Value}
 use Rattle.jl_entry.specs.declared.names.EntryFile.{EntryFile}
 use Rattle.jl_entry.specs.declared.names.EntryFile.TheVariants.{Output, Metadata, Access}
-use Rattle.jl_claims.specs.Claims.{GoesOn}
+use Rattle.jl_rely.specs.Claims.{GoesOn}
 use Rattle.jl_store.specs.Publishing.{EndsIn}
 use Rattle.jl_store.specs.Checking.{Checks, IsOfCode, function_path, code_path, code_temp}
 use Rattle.jl_store.specs.Keeping.{Includes, HasPut, HasPutAll, last_of, temp_of}

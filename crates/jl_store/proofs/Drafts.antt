@@ -10,12 +10,12 @@ use Rattle.jl_folder.specs.declared.moves.Move.TheVariants.{Create, Append, Rena
 use Rattle.jl_folder.specs.State.{State, Event, History, Opens, IsState, IsHistory, place_at, node_at, bytes_of, bytes_at, now, since, after, run}
 use Rattle.jl_folder.specs.Calls.{Call, own_event}
 use Rattle.jl_folder.proofs.StateKept.{IsState-run}
-use Rattle.jl_claims.specs.Steps.{IsLone}
-use Rattle.jl_claims.specs.Touches.{Touches}
-use Rattle.jl_claims.proofs.Alone.{moves_alone}
-use Rattle.jl_claims.proofs.Touched.{step_or_touch}
-use Rattle.jl_claims.proofs.Effects.{created_here, created_node, created_nodes, appended_node, appended_nodes, renamed_here, renamed_from, renamed_node, renamed_nodes}
-use Rattle.jl_laws.proofs.Before.{some_not_none, renumber, node_of, created_files}
+use Rattle.jl_rely.specs.Steps.{IsLone}
+use Rattle.jl_rely.specs.Touches.{Touches}
+use Rattle.jl_rely.proofs.Alone.{moves_alone}
+use Rattle.jl_rely.proofs.Touched.{step_or_touch}
+use Rattle.jl_rely.proofs.Effects.{created_here, created_node, created_nodes, appended_node, appended_nodes, renamed_here, renamed_from, renamed_node, renamed_nodes}
+use Rattle.jl_protocol.proofs.Before.{some_not_none, renumber, node_of, created_files}
 use Rattle.jl_clear.specs.Taking.{IsBeside}
 use Rattle.jl_store.specs.Publishing.{MakesFile, TakesAway, IsDraft, IsPublished, TempAlone}
 use Rattle.jl_store.specs.declared.temporary.TempFile.{TempFile}

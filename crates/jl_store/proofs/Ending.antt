@@ -9,18 +9,18 @@ use Rattle.jl_folder.specs.declared.folder.Renamed.TheVariants as renamed
 use Rattle.jl_folder.specs.State.{State, Event, Trace, History, place_at, is_folder, has_parent, now, since, run}
 use Rattle.jl_folder.specs.Calls.{Call, NoMove, RenamesFile, own_event}
 use Rattle.jl_entry.specs.Names.{Final, IsFinal, IsTemp}
-use Rattle.jl_claims.specs.Steps.{IsLone, OwnMoves}
-use Rattle.jl_claims.specs.Claims.{Called, GoesOn, Anywhere}
-use Rattle.jl_claims.specs.Touches.{TouchedByOther}
-use Rattle.jl_claims.proofs.Since.{since_went, since_then, went_none, went_since}
-use Rattle.jl_claims.proofs.Alone.{moves_alone}
-use Rattle.jl_claims.proofs.Touched.{IsApart, touched_as}
-use Rattle.jl_claims.proofs.Causes.{folder_as, parent_as, touched_later, touched_sooner, until_end, new_folder, lost_file, lost_parent}
-use Rattle.jl_claims.proofs.Composed.{IsStable, IsOwnTurn, always_stable, went_call, own_still, own_step, turn_called, then_called}
-use Rattle.jl_laws.specs.Whole.{IsWhole}
-use Rattle.jl_laws.specs.Proper.{IsProper}
-use Rattle.jl_laws.specs.Owned.{IsOwnFile}
-use Rattle.jl_laws.proofs.Owning.{own_stable, own_has, rename_proper}
+use Rattle.jl_rely.specs.Steps.{IsLone, OwnMoves}
+use Rattle.jl_rely.specs.Claims.{Called, GoesOn, Anywhere}
+use Rattle.jl_rely.specs.Touches.{TouchedByOther}
+use Rattle.jl_rely.proofs.Since.{since_went, since_then, went_none, went_since}
+use Rattle.jl_rely.proofs.Alone.{moves_alone}
+use Rattle.jl_rely.proofs.Touched.{IsApart, touched_as}
+use Rattle.jl_rely.proofs.Causes.{folder_as, parent_as, touched_later, touched_sooner, until_end, new_folder, lost_file, lost_parent}
+use Rattle.jl_rely.proofs.Composed.{IsStable, IsOwnTurn, always_stable, went_call, own_still, own_step, turn_called, then_called}
+use Rattle.jl_protocol.specs.Whole.{IsWhole}
+use Rattle.jl_protocol.specs.Proper.{IsProper}
+use Rattle.jl_protocol.specs.Owned.{IsOwnFile}
+use Rattle.jl_protocol.proofs.Owning.{own_stable, own_has, rename_proper}
 use Rattle.jl_store.specs.Kinds.{IsAppend, IsOnName, IsFor, RenamesThis, PutsThis, UsesFile, UsesNames}
 use Rattle.jl_store.specs.Publishing.{CallsOn, BytesLeft, BytesAlone, EndsIn, IsDraft, IsPublished}
 use Rattle.jl_store.specs.declared.files.Wrote.{Wrote}

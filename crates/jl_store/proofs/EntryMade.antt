@@ -13,20 +13,20 @@ use Rattle.jl_folder.specs.Calls.{Call, MakesDir, Maybe, own_event}
 use Rattle.jl_folder.proofs.Traces.{run-append}
 use Rattle.jl_entry.specs.declared.names.EntryFile.{EntryFile}
 use Rattle.jl_entry.specs.declared.names.EntryFile.TheVariants.{Output, Metadata, Access}
-use Rattle.jl_claims.specs.Steps.{OwnMoves, IsLone}
-use Rattle.jl_claims.specs.Claims.{Anywhere}
-use Rattle.jl_claims.specs.Touches.{Touches, TouchedByOther}
-use Rattle.jl_claims.proofs.Since.{now_went, went_none}
-use Rattle.jl_claims.proofs.Alone.{moves_alone}
-use Rattle.jl_claims.proofs.Traces.{OwnMoves-append, foreign_own}
-use Rattle.jl_claims.proofs.Touched.{IsApart}
-use Rattle.jl_claims.proofs.Effects.{made_here}
-use Rattle.jl_claims.proofs.Causes.{folder_as, until_end, lost_parent}
-use Rattle.jl_claims.proofs.Composed.{IsOwnTurn, went_call, own_still, own_step, turn_called, carried_stable}
-use Rattle.jl_laws.specs.Tidy.{IsTidy}
-use Rattle.jl_laws.specs.Proper.{IsProper}
-use Rattle.jl_laws.proofs.Kills.{tidy_carried}
-use Rattle.jl_laws.proofs.LawfulCalls.{always_make_dir}
+use Rattle.jl_rely.specs.Steps.{OwnMoves, IsLone}
+use Rattle.jl_rely.specs.Claims.{Anywhere}
+use Rattle.jl_rely.specs.Touches.{Touches, TouchedByOther}
+use Rattle.jl_rely.proofs.Since.{now_went, went_none}
+use Rattle.jl_rely.proofs.Alone.{moves_alone}
+use Rattle.jl_rely.proofs.Traces.{OwnMoves-append, foreign_own}
+use Rattle.jl_rely.proofs.Touched.{IsApart}
+use Rattle.jl_rely.proofs.Effects.{made_here}
+use Rattle.jl_rely.proofs.Causes.{folder_as, until_end, lost_parent}
+use Rattle.jl_rely.proofs.Composed.{IsOwnTurn, went_call, own_still, own_step, turn_called, carried_stable}
+use Rattle.jl_protocol.specs.Tidy.{IsTidy}
+use Rattle.jl_protocol.specs.Proper.{IsProper}
+use Rattle.jl_protocol.proofs.Kills.{tidy_carried}
+use Rattle.jl_protocol.proofs.LawfulCalls.{always_make_dir}
 use Rattle.jl_clear.specs.Taking.{IsBeside}
 use Rattle.jl_clear.proofs.Folders.{final_no_folder, temp_no_folder}
 use Rattle.jl_store.specs.Keeping.{Entry, entry_path, function_path, file_of, last_of, temp_of, IsKeeping, RenamesEntry, PutsEntry, UsesEntry, Keeps, IsReadyFor, AreReady, IsAnyFile, made_of}

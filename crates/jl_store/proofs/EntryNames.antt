@@ -9,7 +9,7 @@ use Rattle.jl_folder.specs.State.{State, is_folder, has_parent}
 use Rattle.jl_entry.specs.declared.names.EntryFile.{EntryFile}
 use Rattle.jl_entry.specs.declared.names.EntryFile.TheVariants.{Output, Metadata, Access}
 use Rattle.jl_entry.specs.Names.{IsFinal, IsTemp, IsStoreFolder, is_key, entry_part, suffix, below}
-use Rattle.jl_claims.proofs.Touched.{IsApart}
+use Rattle.jl_rely.proofs.Touched.{IsApart}
 use Rattle.jl_clear.proofs.Paths.{parent_in}
 use Rattle.jl_store.specs.Kinds.{IsFor}
 use Rattle.jl_store.specs.Keeping.{Entry, function_path, entry_path, file_of, last_of, temp_of}

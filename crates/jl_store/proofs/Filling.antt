@@ -8,14 +8,14 @@ use Rattle.jl_folder.specs.declared.folder.Appended.{Appended}
 use Rattle.jl_folder.specs.declared.folder.Appended.TheVariants as appended
 use Rattle.jl_folder.specs.State.{State, History, Opens, now, since, run}
 use Rattle.jl_folder.specs.Calls.{Call, AppendsBytes, AppendsPart, own_event}
-use Rattle.jl_claims.specs.Steps.{IsLone}
-use Rattle.jl_claims.specs.Claims.{GoesOn, Anywhere}
-use Rattle.jl_claims.proofs.Since.{goes_none, goes_then}
-use Rattle.jl_claims.proofs.Alone.{moves_alone, lone_parts}
-use Rattle.jl_claims.proofs.Composed.{IsOwnTurn, goes_call, own_still, own_step, turn_called, not_called}
-use Rattle.jl_laws.specs.Proper.{IsProper}
-use Rattle.jl_laws.specs.Owned.{IsOwnFile}
-use Rattle.jl_laws.proofs.Owning.{own_stable, appends_own, append_proper}
+use Rattle.jl_rely.specs.Steps.{IsLone}
+use Rattle.jl_rely.specs.Claims.{GoesOn, Anywhere}
+use Rattle.jl_rely.proofs.Since.{goes_none, goes_then}
+use Rattle.jl_rely.proofs.Alone.{moves_alone, lone_parts}
+use Rattle.jl_rely.proofs.Composed.{IsOwnTurn, goes_call, own_still, own_step, turn_called, not_called}
+use Rattle.jl_protocol.specs.Proper.{IsProper}
+use Rattle.jl_protocol.specs.Owned.{IsOwnFile}
+use Rattle.jl_protocol.proofs.Owning.{own_stable, appends_own, append_proper}
 use Rattle.jl_store.specs.Kinds.{IsAppend}
 use Rattle.jl_store.specs.Publishing.{CallsOn, IsDraft}
 use Rattle.jl_store.proofs.KindFacts.{is_append}

@@ -6,10 +6,10 @@ use Rattle.jl_folder.specs.Reading.{ReadsNamed, ReadsFile}
 use Rattle.jl_folder.specs.declared.read.FileRead.{FileRead}
 use Rattle.jl_folder.specs.declared.read.FileRead.TheVariants as file_read
 use Rattle.jl_entry.specs.Names.{Final, IsFinal}
-use Rattle.jl_claims.specs.Steps.{AllSteps}
-use Rattle.jl_laws.specs.Whole.{IsWhole}
-use Rattle.jl_laws.specs.Proper.{IsProper}
-use Rattle.jl_laws.specs.Tidy.{IsTidy}
+use Rattle.jl_rely.specs.Steps.{AllSteps}
+use Rattle.jl_protocol.specs.Whole.{IsWhole}
+use Rattle.jl_protocol.specs.Proper.{IsProper}
+use Rattle.jl_protocol.specs.Tidy.{IsTidy}
 use Rattle.jl_store.specs.Looking.{OpenedHas}
 use Rattle.jl_store.specs.Reading.{FindsWhole, FindsFinal}
 use Rattle.jl_store.proofs.LookTidy.{opened_whole, opened_then}

@@ -13,19 +13,19 @@ use Rattle.jl_folder.specs.State.{State, History, place_at, is_folder, is_folder
 use Rattle.jl_folder.specs.Calls.{Call, MakesDir, own_event}
 use Rattle.jl_folder.proofs.Traces.{run-append}
 use Rattle.jl_entry.specs.Names.{IsStoreFolder}
-use Rattle.jl_claims.specs.Steps.{AllSteps}
-use Rattle.jl_claims.specs.Claims.{GoesOn}
-use Rattle.jl_claims.specs.Touches.{TouchedByOther}
-use Rattle.jl_claims.proofs.Traces.{IsTrace-left, AllSteps-left, AllSteps-right}
-use Rattle.jl_claims.proofs.Since.{since_went, since_then, now_went, went_since}
-use Rattle.jl_claims.proofs.Composed.{went_call}
-use Rattle.jl_claims.proofs.Touched.{foreign_or_touched, touched_left, touched_as}
-use Rattle.jl_claims.proofs.Causes.{touched_later, touched_sooner}
-use Rattle.jl_claims.proofs.Effects.{made_here}
-use Rattle.jl_laws.specs.Proper.{IsProper}
-use Rattle.jl_laws.specs.Tidy.{IsTidy}
-use Rattle.jl_laws.proofs.Before.{some_of}
-use Rattle.jl_laws.proofs.Kills.{tidy_at_end}
+use Rattle.jl_rely.specs.Steps.{AllSteps}
+use Rattle.jl_rely.specs.Claims.{GoesOn}
+use Rattle.jl_rely.specs.Touches.{TouchedByOther}
+use Rattle.jl_rely.proofs.Traces.{IsTrace-left, AllSteps-left, AllSteps-right}
+use Rattle.jl_rely.proofs.Since.{since_went, since_then, now_went, went_since}
+use Rattle.jl_rely.proofs.Composed.{went_call}
+use Rattle.jl_rely.proofs.Touched.{foreign_or_touched, touched_left, touched_as}
+use Rattle.jl_rely.proofs.Causes.{touched_later, touched_sooner}
+use Rattle.jl_rely.proofs.Effects.{made_here}
+use Rattle.jl_protocol.specs.Proper.{IsProper}
+use Rattle.jl_protocol.specs.Tidy.{IsTidy}
+use Rattle.jl_protocol.proofs.Before.{some_of}
+use Rattle.jl_protocol.proofs.Kills.{tidy_at_end}
 use Rattle.jl_clear.specs.Taking.{IsFunctionFolder}
 use Rattle.jl_store.specs.Doing.{IsPrefix}
 use Rattle.jl_store.specs.Storing.{folders_of, StepOr, FoldersOr}

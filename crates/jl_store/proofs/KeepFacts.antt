@@ -8,16 +8,16 @@ use Rattle.jl_folder.specs.State.{State, Event, Trace, History, IsState, place_a
 use Rattle.jl_entry.specs.declared.names.EntryFile.{EntryFile}
 use Rattle.jl_entry.specs.declared.names.EntryFile.TheVariants.{Output, Metadata, Access}
 use Rattle.jl_entry.specs.Names.{IsFinal, IsTemp}
-use Rattle.jl_claims.specs.Steps.{OwnMoves}
-use Rattle.jl_claims.specs.Claims.{GoesOn, Anywhere}
-use Rattle.jl_claims.specs.Touches.{TouchedByOther}
-use Rattle.jl_claims.proofs.Since.{since_then, went_since}
-use Rattle.jl_claims.proofs.Touched.{touched_as}
-use Rattle.jl_claims.proofs.Causes.{folder_as, touched_later, touched_sooner, until_end}
-use Rattle.jl_claims.proofs.Composed.{then_called, called_as, called_for, called_keeps, not_called}
-use Rattle.jl_laws.specs.Tidy.{IsTidy}
-use Rattle.jl_laws.specs.Proper.{IsProper}
-use Rattle.jl_laws.proofs.Kills.{tidy_carried}
+use Rattle.jl_rely.specs.Steps.{OwnMoves}
+use Rattle.jl_rely.specs.Claims.{GoesOn, Anywhere}
+use Rattle.jl_rely.specs.Touches.{TouchedByOther}
+use Rattle.jl_rely.proofs.Since.{since_then, went_since}
+use Rattle.jl_rely.proofs.Touched.{touched_as}
+use Rattle.jl_rely.proofs.Causes.{folder_as, touched_later, touched_sooner, until_end}
+use Rattle.jl_rely.proofs.Composed.{then_called, called_as, called_for, called_keeps, not_called}
+use Rattle.jl_protocol.specs.Tidy.{IsTidy}
+use Rattle.jl_protocol.specs.Proper.{IsProper}
+use Rattle.jl_protocol.proofs.Kills.{tidy_carried}
 use Rattle.jl_clear.specs.Taking.{IsBeside}
 use Rattle.jl_clear.proofs.Folders.{final_no_folder, temp_no_folder}
 use Rattle.jl_store.specs.Kinds.{IsFor, RenamesThis, PutsThis, UsesNames}

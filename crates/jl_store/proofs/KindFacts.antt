@@ -4,10 +4,10 @@ use Rattle.jl_text.specs.Paths.{PathView}
 use Rattle.jl_folder.specs.declared.moves.Move.{Move}
 use Rattle.jl_folder.specs.declared.moves.Move.TheVariants.{MakeDir, Create, Append, Rename, Remove, RemoveDir}
 use Rattle.jl_folder.specs.State.{State, History}
-use Rattle.jl_claims.specs.Claims.{Called}
-use Rattle.jl_claims.proofs.Touched.{IsApart}
-use Rattle.jl_claims.proofs.Composed.{called_kinds}
-use Rattle.jl_laws.specs.Proper.{IsProper}
+use Rattle.jl_rely.specs.Claims.{Called}
+use Rattle.jl_rely.proofs.Touched.{IsApart}
+use Rattle.jl_rely.proofs.Composed.{called_kinds}
+use Rattle.jl_protocol.specs.Proper.{IsProper}
 use Rattle.jl_store.specs.Kinds.{IsAppend, IsOnName, IsFor, RenamesThis, PutsThis}
 
 pub append_apart : (x : PathView) → IsApart IsAppend x

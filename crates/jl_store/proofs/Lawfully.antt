@@ -4,15 +4,15 @@ use Rattle.jl_text.specs.Paths.{PathView}
 use Rattle.jl_folder.specs.declared.moves.Move.{Move}
 use Rattle.jl_folder.specs.State.{State, History, now, since}
 use Rattle.jl_folder.specs.Calls.{Waits}
-use Rattle.jl_claims.specs.Steps.{StepFact, AllSteps}
-use Rattle.jl_claims.specs.Claims.{Called, GoesOn}
-use Rattle.jl_claims.proofs.Since.{now_went, since_then}
-use Rattle.jl_claims.proofs.Traces.{AllSteps-left, AllSteps-right, Throughout-weaken, OwnMoves-weaken}
-use Rattle.jl_claims.proofs.Composed.{carried_stable, waits_called, not_called, then_called, called_went}
-use Rattle.jl_laws.specs.Whole.{Answers}
-use Rattle.jl_laws.specs.Tidy.{IsTidy, IsSound}
-use Rattle.jl_laws.specs.Proper.{IsProper, IsLawful, RenamesTrue, LawfulThroughout}
-use Rattle.jl_laws.proofs.Kills.{sound_carried, sound_at_end}
+use Rattle.jl_rely.specs.Steps.{StepFact, AllSteps}
+use Rattle.jl_rely.specs.Claims.{Called, GoesOn}
+use Rattle.jl_rely.proofs.Since.{now_went, since_then}
+use Rattle.jl_rely.proofs.Traces.{AllSteps-left, AllSteps-right, Throughout-weaken, OwnMoves-weaken}
+use Rattle.jl_rely.proofs.Composed.{carried_stable, waits_called, not_called, then_called, called_went}
+use Rattle.jl_protocol.specs.Whole.{Answers}
+use Rattle.jl_protocol.specs.Tidy.{IsTidy, IsSound}
+use Rattle.jl_protocol.specs.Proper.{IsProper, IsLawful, RenamesTrue, LawfulThroughout}
+use Rattle.jl_protocol.proofs.Kills.{sound_carried, sound_at_end}
 use Rattle.jl_clear.specs.Doing.{AnyMove}
 use Rattle.jl_store.specs.Trust.{IsTrusted}
 

@@ -13,15 +13,15 @@ use Rattle.jl_value.specs.declared.library.TaskError.{TaskError}
 use Rattle.jl_entry.specs.Moments.{access_text}
 use Rattle.jl_entry.specs.declared.names.EntryFile.TheVariants.{Output, Access}
 use Rattle.jl_entry.specs.Codes.{code_text}
-use Rattle.jl_claims.specs.Steps.{StepFact, AllSteps, IsLone}
-use Rattle.jl_claims.specs.Claims.{GoesOn, Called, Anywhere}
-use Rattle.jl_claims.specs.Touches.{TouchedByOther}
-use Rattle.jl_claims.proofs.Since.{now_went, went_since}
-use Rattle.jl_claims.proofs.Traces.{AllSteps-weaken}
-use Rattle.jl_laws.specs.Proper.{IsProper, IsLawful}
-use Rattle.jl_laws.specs.Tidy.{IsTidy, IsSound}
-use Rattle.jl_laws.specs.Whole.{Answers}
-use Rattle.jl_laws.proofs.Kills.{tidy_at_end}
+use Rattle.jl_rely.specs.Steps.{StepFact, AllSteps, IsLone}
+use Rattle.jl_rely.specs.Claims.{GoesOn, Called, Anywhere}
+use Rattle.jl_rely.specs.Touches.{TouchedByOther}
+use Rattle.jl_rely.proofs.Since.{now_went, went_since}
+use Rattle.jl_rely.proofs.Traces.{AllSteps-weaken}
+use Rattle.jl_protocol.specs.Proper.{IsProper, IsLawful}
+use Rattle.jl_protocol.specs.Tidy.{IsTidy, IsSound}
+use Rattle.jl_protocol.specs.Whole.{Answers}
+use Rattle.jl_protocol.proofs.Kills.{tidy_at_end}
 use Rattle.jl_clear.proofs.Listings.{no_moves}
 use Rattle.jl_store.specs.Warned.{IsOrderly, UsesCall, IsCaused, AreCaused, Warns, AreOthers, WarnsOfOthers}
 use Rattle.jl_store.specs.Publishing.{IsPublished}

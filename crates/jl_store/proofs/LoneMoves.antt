@@ -7,12 +7,12 @@ use Rattle.jl_folder.specs.declared.moves.Place.TheVariants.{Folder, File}
 use Rattle.jl_folder.specs.declared.moves.Move.{Move}
 use Rattle.jl_folder.specs.declared.moves.Move.TheVariants.{MakeDir, Create, Append, Rename, Remove, RemoveDir}
 use Rattle.jl_folder.specs.State.{State, Trace, History, place_at, node_at, is_folder, is_folder_place, now, since, after, run}
-use Rattle.jl_claims.specs.Steps.{AllSteps, OwnMoves, IsLone}
-use Rattle.jl_claims.specs.Touches.{Touches, TouchedByOther}
-use Rattle.jl_claims.proofs.Since.{now_went}
-use Rattle.jl_laws.specs.Proper.{IsProper}
-use Rattle.jl_laws.specs.Tidy.{IsTidy}
-use Rattle.jl_laws.proofs.Kills.{tidy_at_end}
+use Rattle.jl_rely.specs.Steps.{AllSteps, OwnMoves, IsLone}
+use Rattle.jl_rely.specs.Touches.{Touches, TouchedByOther}
+use Rattle.jl_rely.proofs.Since.{now_went}
+use Rattle.jl_protocol.specs.Proper.{IsProper}
+use Rattle.jl_protocol.specs.Tidy.{IsTidy}
+use Rattle.jl_protocol.proofs.Kills.{tidy_at_end}
 use Rattle.jl_clear.proofs.Removals.{lone_all}
 use Rattle.jl_clear.specs.Doing.{Moves}
 use Rattle.jl_clear.specs.Taking.{IsBeside}

@@ -10,7 +10,7 @@ use Rattle.jl_folder.specs.State.{State, Trace}
 use Rattle.jl_text.specs.Counts.{Rose}
 use Rattle.jl_folder.specs.Reading.{ReadsNamed}
 use Rattle.jl_entry.specs.Entry.{Members, IsEntry, IsOther}
-use Rattle.jl_laws.specs.Whole.{most_bytes}
+use Rattle.jl_protocol.specs.Whole.{most_bytes}
 use Rattle.jl_store.specs.declared.found.Found.{Found}
 use Rattle.jl_store.specs.declared.found.Found.TheVariants as found
 use Rattle.jl_store.specs.declared.found.Look.{Look}

@@ -12,14 +12,14 @@ use Rattle.jl_folder.specs.State.{State, Trace, AtSome, IsTrace, place_at, is_fi
 use Rattle.jl_entry.specs.Names.{Final, IsFinal}
 use Rattle.jl_entry.specs.Entry.{Members, IsEntry, IsEntryOf, IsOther}
 use Rattle.jl_entry.proofs.Entries.{entry_once}
-use Rattle.jl_claims.specs.Steps.{AllSteps}
-use Rattle.jl_claims.proofs.Traces.{IsTrace-left, IsTrace-right, AllSteps-left, AllSteps-right, AllSteps-weaken}
-use Rattle.jl_laws.specs.Whole.{most_bytes, Answers, IsWhole, IsTruthful}
-use Rattle.jl_laws.specs.Proper.{IsProper, IsLawful}
-use Rattle.jl_laws.specs.Tidy.{IsTidy, IsSound}
-use Rattle.jl_laws.proofs.Before.{one_value}
-use Rattle.jl_laws.proofs.Kills.{tidy_at_end, sound_at_end}
-use Rattle.jl_laws.proofs.Keeping.{kept_at, kept_unwritten}
+use Rattle.jl_rely.specs.Steps.{AllSteps}
+use Rattle.jl_rely.proofs.Traces.{IsTrace-left, IsTrace-right, AllSteps-left, AllSteps-right, AllSteps-weaken}
+use Rattle.jl_protocol.specs.Whole.{most_bytes, Answers, IsWhole, IsTruthful}
+use Rattle.jl_protocol.specs.Proper.{IsProper, IsLawful}
+use Rattle.jl_protocol.specs.Tidy.{IsTidy, IsSound}
+use Rattle.jl_protocol.proofs.Before.{one_value}
+use Rattle.jl_protocol.proofs.Kills.{tidy_at_end, sound_at_end}
+use Rattle.jl_protocol.proofs.Keeping.{kept_at, kept_unwritten}
 use Rattle.jl_store.specs.declared.found.Look.{Look}
 use Rattle.jl_store.specs.declared.found.Look.TheVariants as look
 use Rattle.jl_store.specs.declared.memory.WarnKind.TheVariants.{LoadFault, NotMine, Damaged}

@@ -5,10 +5,10 @@ use Rattle.jl_folder.specs.declared.moves.Place.TheVariants.{Folder}
 use Rattle.jl_folder.specs.declared.moves.Move.{Move}
 use Rattle.jl_folder.specs.declared.moves.Move.TheVariants.{MakeDir, Create, Append, Rename, Remove, RemoveDir}
 use Rattle.jl_folder.specs.State.{State, History, place_at, now, since}
-use Rattle.jl_claims.specs.Steps.{IsLone}
-use Rattle.jl_claims.specs.Touches.{TouchedByOther}
-use Rattle.jl_laws.specs.Proper.{IsProper}
-use Rattle.jl_laws.specs.Tidy.{IsTidy}
+use Rattle.jl_rely.specs.Steps.{IsLone}
+use Rattle.jl_rely.specs.Touches.{TouchedByOther}
+use Rattle.jl_protocol.specs.Proper.{IsProper}
+use Rattle.jl_protocol.specs.Tidy.{IsTidy}
 use Rattle.jl_clear.specs.Taking.{IsFunctionFolder}
 use Rattle.jl_clear.specs.Doing.{Moves}
 use Rattle.jl_store.specs.declared.folders.MadeFolders.TheVariants as made_folders

@@ -9,21 +9,21 @@ use Rattle.jl_folder.specs.State.{State, Trace, History, Opens, Allowed, IsForei
 use Rattle.jl_folder.specs.Calls.{Call, own_event}
 use Rattle.jl_folder.proofs.Traces.{run-append}
 use Rattle.jl_entry.specs.Names.{Final, IsTemp}
-use Rattle.jl_claims.specs.Steps.{OwnMoves}
-use Rattle.jl_claims.specs.Claims.{Called, Anywhere, GoesOn}
-use Rattle.jl_claims.specs.Touches.{TouchedByOther}
-use Rattle.jl_claims.proofs.Since.{Went, now_went, went_none}
-use Rattle.jl_claims.proofs.Traces.{OwnMoves-append, foreign_own}
-use Rattle.jl_claims.proofs.Touched.{IsApart}
-use Rattle.jl_claims.proofs.Effects.{created_here, removed_here}
-use Rattle.jl_claims.proofs.Causes.{folder_as, file_as, parent_as, place_none, parent_free, touched_later, touched_sooner, until_end, until_answer, lost_parent}
-use Rattle.jl_claims.proofs.Composed.{IsStable, IsOwnTurn, went_call, goes_call, own_still, own_step, turn_called, then_called, called_for, carried_stable, always_stable}
-use Rattle.jl_laws.specs.Tidy.{IsTidy}
-use Rattle.jl_laws.specs.Proper.{IsProper}
-use Rattle.jl_laws.specs.Owned.{IsOwnFile}
-use Rattle.jl_laws.proofs.Kills.{tidy_carried}
-use Rattle.jl_laws.proofs.LawfulCalls.{always_remove}
-use Rattle.jl_laws.proofs.Owning.{create_proper, creates_own}
+use Rattle.jl_rely.specs.Steps.{OwnMoves}
+use Rattle.jl_rely.specs.Claims.{Called, Anywhere, GoesOn}
+use Rattle.jl_rely.specs.Touches.{TouchedByOther}
+use Rattle.jl_rely.proofs.Since.{Went, now_went, went_none}
+use Rattle.jl_rely.proofs.Traces.{OwnMoves-append, foreign_own}
+use Rattle.jl_rely.proofs.Touched.{IsApart}
+use Rattle.jl_rely.proofs.Effects.{created_here, removed_here}
+use Rattle.jl_rely.proofs.Causes.{folder_as, file_as, parent_as, place_none, parent_free, touched_later, touched_sooner, until_end, until_answer, lost_parent}
+use Rattle.jl_rely.proofs.Composed.{IsStable, IsOwnTurn, went_call, goes_call, own_still, own_step, turn_called, then_called, called_for, carried_stable, always_stable}
+use Rattle.jl_protocol.specs.Tidy.{IsTidy}
+use Rattle.jl_protocol.specs.Proper.{IsProper}
+use Rattle.jl_protocol.specs.Owned.{IsOwnFile}
+use Rattle.jl_protocol.proofs.Kills.{tidy_carried}
+use Rattle.jl_protocol.proofs.LawfulCalls.{always_remove}
+use Rattle.jl_protocol.proofs.Owning.{create_proper, creates_own}
 use Rattle.jl_store.specs.Kinds.{IsOnName, UsesFile}
 use Rattle.jl_store.specs.Publishing.{CallsOn, MakesFile, TakesAway, TempLeft, TempNamed}
 use Rattle.jl_store.specs.declared.temporary.TempFile.{TempFile}

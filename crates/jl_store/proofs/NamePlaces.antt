@@ -3,8 +3,8 @@ use Rattle.std.proofs.Common.{true, ◌≡◌, ◌≢◌, ℕ, suc, ◌+◌, ◌
 use Rattle.jl_text.specs.Paths.{PathView, is_fixed, parent}
 use Rattle.jl_folder.specs.State.{State, is_folder, has_parent}
 use Rattle.jl_entry.specs.Names.{Final, code_of, entry_of, IsFinal, IsTemp, code_part, entry_part, suffix}
-use Rattle.jl_claims.proofs.Effects.{number_apart}
-use Rattle.jl_laws.specs.Tidy.{IsTidy}
+use Rattle.jl_rely.proofs.Effects.{number_apart}
+use Rattle.jl_protocol.specs.Tidy.{IsTidy}
 use Rattle.jl_store.specs.Publishing.{IsReady}
 use Rattle.jl_clear.proofs.Paths.{parent_in}
 use Rattle.jl_clear.proofs.Folders.{final_no_folder, temp_no_folder}

@@ -6,11 +6,11 @@ use Rattle.jl_folder.specs.State.{State, Trace, History, now, since}
 use Rattle.jl_value.specs.Key.{key_of}
 use Rattle.jl_value.specs.declared.key.Key.{Key}
 use Rattle.jl_entry.specs.declared.names.EntryFile.TheVariants.{Access}
-use Rattle.jl_claims.specs.Steps.{AllSteps}
-use Rattle.jl_claims.specs.Touches.{TouchedByOther}
-use Rattle.jl_claims.proofs.Touched.{touched_as}
-use Rattle.jl_laws.specs.Proper.{IsProper}
-use Rattle.jl_laws.specs.Tidy.{IsTidy}
+use Rattle.jl_rely.specs.Steps.{AllSteps}
+use Rattle.jl_rely.specs.Touches.{TouchedByOther}
+use Rattle.jl_rely.proofs.Touched.{touched_as}
+use Rattle.jl_protocol.specs.Proper.{IsProper}
+use Rattle.jl_protocol.specs.Tidy.{IsTidy}
 use Rattle.jl_store.specs.Looking.{Missing, absent, failed, other, damaged, warnings_for, IsMissing, Looks, LooksTidy}
 use Rattle.jl_store.specs.Next.{Asked, entry_asked, output_asked}
 use Rattle.jl_store.specs.Warned.{IsOrderly, UsesCall}

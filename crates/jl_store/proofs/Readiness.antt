@@ -9,16 +9,16 @@ use Rattle.jl_folder.specs.Calls.{Waits}
 use Rattle.jl_folder.proofs.Traces.{run-append}
 use Rattle.jl_entry.specs.Names.{code_part, suffix}
 use Rattle.jl_entry.specs.declared.names.EntryFile.TheVariants.{Output}
-use Rattle.jl_claims.specs.Steps.{AllSteps, OwnMoves}
-use Rattle.jl_claims.specs.Claims.{GoesOn, Silent}
-use Rattle.jl_claims.specs.Touches.{Touches, TouchedByOther}
-use Rattle.jl_claims.proofs.Since.{since_went, now_went, went_since}
-use Rattle.jl_claims.proofs.Traces.{IsTrace-left, IsTrace-right, AllSteps-left, foreign_own}
-use Rattle.jl_claims.proofs.Composed.{went_waits}
-use Rattle.jl_claims.proofs.Touched.{step_or_touch, same_or_touched, touched_right, touched_as}
-use Rattle.jl_claims.proofs.Causes.{folder_as, until_end}
-use Rattle.jl_laws.specs.Proper.{IsProper}
-use Rattle.jl_laws.proofs.Kills.{tidy_at_end}
+use Rattle.jl_rely.specs.Steps.{AllSteps, OwnMoves}
+use Rattle.jl_rely.specs.Claims.{GoesOn, Silent}
+use Rattle.jl_rely.specs.Touches.{Touches, TouchedByOther}
+use Rattle.jl_rely.proofs.Since.{since_went, now_went, went_since}
+use Rattle.jl_rely.proofs.Traces.{IsTrace-left, IsTrace-right, AllSteps-left, foreign_own}
+use Rattle.jl_rely.proofs.Composed.{went_waits}
+use Rattle.jl_rely.proofs.Touched.{step_or_touch, same_or_touched, touched_right, touched_as}
+use Rattle.jl_rely.proofs.Causes.{folder_as, until_end}
+use Rattle.jl_protocol.specs.Proper.{IsProper}
+use Rattle.jl_protocol.proofs.Kills.{tidy_at_end}
 use Rattle.jl_clear.proofs.Paths.{parent_in}
 use Rattle.jl_store.specs.Checking.{UsesCode, Checks, function_path, code_path, code_temp}
 use Rattle.jl_store.specs.Keeping.{entry_path}

@@ -9,17 +9,17 @@ use Rattle.jl_folder.specs.State.{State, Trace, History, IsForeign, IsTrace, pla
 use Rattle.jl_folder.specs.Calls.{Waits}
 use Rattle.jl_folder.proofs.Traces.{run-append}
 use Rattle.jl_entry.specs.Names.{code_part}
-use Rattle.jl_claims.specs.Steps.{AllSteps}
-use Rattle.jl_claims.specs.Claims.{GoesOn}
-use Rattle.jl_claims.specs.Touches.{TouchedByOther}
-use Rattle.jl_claims.proofs.Traces.{IsTrace-left, AllSteps-left, AllSteps-right, foreign_own}
-use Rattle.jl_claims.proofs.Since.{since_went, since_then, now_went, went_since}
-use Rattle.jl_claims.proofs.Composed.{went_waits, goes_waits}
-use Rattle.jl_claims.proofs.Touched.{IsApart, same_or_touched, touched_right, touched_as}
-use Rattle.jl_claims.proofs.Causes.{touched_later, touched_sooner, until_end}
-use Rattle.jl_laws.specs.Proper.{IsProper}
-use Rattle.jl_laws.specs.Tidy.{IsTidy}
-use Rattle.jl_laws.proofs.Kills.{tidy_at_end}
+use Rattle.jl_rely.specs.Steps.{AllSteps}
+use Rattle.jl_rely.specs.Claims.{GoesOn}
+use Rattle.jl_rely.specs.Touches.{TouchedByOther}
+use Rattle.jl_rely.proofs.Traces.{IsTrace-left, AllSteps-left, AllSteps-right, foreign_own}
+use Rattle.jl_rely.proofs.Since.{since_went, since_then, now_went, went_since}
+use Rattle.jl_rely.proofs.Composed.{went_waits, goes_waits}
+use Rattle.jl_rely.proofs.Touched.{IsApart, same_or_touched, touched_right, touched_as}
+use Rattle.jl_rely.proofs.Causes.{touched_later, touched_sooner, until_end}
+use Rattle.jl_protocol.specs.Proper.{IsProper}
+use Rattle.jl_protocol.specs.Tidy.{IsTidy}
+use Rattle.jl_protocol.proofs.Kills.{tidy_at_end}
 use Rattle.jl_clear.specs.Doing.{Moves}
 use Rattle.jl_clear.proofs.Paths.{parent_in}
 use Rattle.jl_store.specs.Doing.{IsPrefix, IsEmptying, IsClearing}

@@ -9,8 +9,8 @@ use Rattle.jl_folder.specs.declared.moves.Move.TheVariants.{MakeDir, Create, App
 use Rattle.jl_folder.specs.State.{State}
 use Rattle.jl_entry.specs.Codes.{code_text, line_words}
 use Rattle.jl_entry.specs.Names.{code_of, IsStoreFolder, IsStoreName, IsOnWay, IsFolderParts, is_rooted, is_key}
-use Rattle.jl_laws.specs.Whole.{IsWhole}
-use Rattle.jl_laws.proofs.LawfulCalls.{always_make_dir, always_remove, always_remove_dir}
+use Rattle.jl_protocol.specs.Whole.{IsWhole}
+use Rattle.jl_protocol.proofs.LawfulCalls.{always_make_dir, always_remove, always_remove_dir}
 use Rattle.jl_clear.proofs.Folders.{entry_in, entry_name, entry_place}
 use Rattle.jl_clear.specs.Taking.{IsEntryName, IsFunctionFolder}
 use Rattle.jl_store.specs.Doing.{IsPrefix, IsMaking, IsEmptying, IsClearing}

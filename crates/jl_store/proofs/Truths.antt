@@ -17,8 +17,8 @@ use Rattle.jl_entry.specs.declared.names.EntryFile.{EntryFile}
 use Rattle.jl_entry.specs.declared.names.EntryFile.TheVariants.{Output, Metadata, Access}
 use Rattle.jl_entry.proofs.Entries.{entry_proper, entry_nesting}
 use Rattle.jl_entry.proofs.NameFacts.{final_one_way}
-use Rattle.jl_laws.specs.Whole.{Answers, IsTruthful}
-use Rattle.jl_laws.specs.Proper.{IsProper, RenamesTrue}
+use Rattle.jl_protocol.specs.Whole.{Answers, IsTruthful}
+use Rattle.jl_protocol.specs.Proper.{IsProper, RenamesTrue}
 use Rattle.jl_store.specs.Kinds.{RenamesThis, PutsThis}
 use Rattle.jl_store.specs.Keeping.{Entry, RenamesEntry, PutsEntry, file_of, last_of, texts}
 use Rattle.jl_store.proofs.EntryNames.{IsNamed, final_of}

@@ -12,7 +12,7 @@ use Rattle.jl_entry.specs.Names.{entry_of}
 use Rattle.jl_entry.specs.Entry.{Members, IsEntryOf, entry_text, args_key, code_key, format_key, value_key}
 use Rattle.jl_entry.specs.Moments.{IsMoment, IsAccess, IsMetadata, access_text, metadata_text}
 use Rattle.jl_entry.specs.declared.names.EntryFile.TheVariants.{Output, Metadata, Access}
-use Rattle.jl_laws.specs.Whole.{IsWhole}
+use Rattle.jl_protocol.specs.Whole.{IsWhole}
 use Rattle.jl_store.specs.Keeping.{IsKeepable}
 
 escaped_short : (b c : Bool) (x y z w : ℕ) → length (cond b (92 ∷ x ∷ []) (cond c (92 ∷ 117 ∷ 48 ∷ 48 ∷ y ∷ z ∷ []) (w ∷ []))) ≤ 6

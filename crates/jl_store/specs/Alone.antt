@@ -3,7 +3,7 @@ use Rattle.std.specs.Prelude.{◌≡◌, ℕ, List, true, None, IsTrue, ⊤}
 use Rattle.jl_text.specs.Paths.{PathView}
 use Rattle.jl_text.specs.Texts.{is_name}
 use Rattle.jl_folder.specs.State.{State, place_at, is_folder}
-use Rattle.jl_laws.specs.Tidy.{IsTidy}
+use Rattle.jl_protocol.specs.Tidy.{IsTidy}
 use Rattle.jl_clear.specs.Taking.{IsBeside}
 use Rattle.jl_store.specs.Doing.{IsPrefix}
 use Rattle.jl_store.specs.Checking.{AreFiles}

@@ -8,12 +8,12 @@ use Rattle.jl_folder.specs.State.{State, Trace, History, Opens, AtSome, is_file,
 use Rattle.jl_text.specs.Counts.{Rose}
 use Rattle.jl_entry.specs.Codes.{IsSameCode}
 use Rattle.jl_entry.specs.Names.{Final, code_of, IsFinal, IsTemp, below, final_parts, temp_parts}
-use Rattle.jl_claims.specs.Steps.{AllSteps, OwnMoves}
-use Rattle.jl_claims.specs.Touches.{TouchedByOther}
-use Rattle.jl_claims.specs.Claims.{GoesOn, Called, Anywhere, Silent}
-use Rattle.jl_laws.specs.Whole.{most_bytes, IsWhole}
-use Rattle.jl_laws.specs.Proper.{IsProper}
-use Rattle.jl_laws.specs.Tidy.{IsTidy}
+use Rattle.jl_rely.specs.Steps.{AllSteps, OwnMoves}
+use Rattle.jl_rely.specs.Touches.{TouchedByOther}
+use Rattle.jl_rely.specs.Claims.{GoesOn, Called, Anywhere, Silent}
+use Rattle.jl_protocol.specs.Whole.{most_bytes, IsWhole}
+use Rattle.jl_protocol.specs.Proper.{IsProper}
+use Rattle.jl_protocol.specs.Tidy.{IsTidy}
 use Rattle.jl_store.specs.Doing.{IsPrefix, IsMaking, IsClearing}
 use Rattle.jl_store.specs.Kinds.{IsFor, PutsThis}
 use Rattle.jl_store.specs.Publishing.{EndsIn}

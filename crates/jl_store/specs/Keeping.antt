@@ -12,17 +12,17 @@ use Rattle.jl_entry.specs.Entry.{Members, entry_text}
 use Rattle.jl_entry.specs.Moments.{metadata_text, access_text}
 use Rattle.jl_entry.specs.declared.names.EntryFile.{EntryFile}
 use Rattle.jl_entry.specs.declared.names.EntryFile.TheVariants.{Output, Metadata, Access}
-use Rattle.jl_claims.specs.Steps.{StepFact}
-use Rattle.jl_claims.specs.Claims.{Called, Anywhere}
-use Rattle.jl_claims.specs.Touches.{TouchedByOther}
-use Rattle.jl_laws.specs.Proper.{IsProper}
-use Rattle.jl_laws.specs.Tidy.{NodeHas, IsTidy}
+use Rattle.jl_rely.specs.Steps.{StepFact}
+use Rattle.jl_rely.specs.Claims.{Called, Anywhere}
+use Rattle.jl_rely.specs.Touches.{TouchedByOther}
+use Rattle.jl_protocol.specs.Proper.{IsProper}
+use Rattle.jl_protocol.specs.Tidy.{NodeHas, IsTidy}
 use Rattle.jl_clear.specs.Taking.{IsBeside}
 use Rattle.jl_store.specs.Kinds.{IsFor, PutsThis, UsesNames}
 use Rattle.jl_folder.specs.declared.folder.MadeDir.{MadeDir}
 use Rattle.jl_folder.specs.declared.folder.MadeDir.TheVariants as made_dir
 use Rattle.hex.specs.Hex.{encode_lower}
-use Rattle.jl_laws.specs.Whole.{IsWhole}
+use Rattle.jl_protocol.specs.Whole.{IsWhole}
 use Rattle.jl_store.specs.declared.memory.Memory.{Memory}
 use Rattle.jl_store.specs.declared.files.Published.{Published}
 use Rattle.jl_store.specs.declared.files.Published.TheVariants as published

@@ -4,9 +4,9 @@ use Rattle.jl_text.specs.Paths.{PathView, parent}
 use Rattle.jl_folder.specs.declared.moves.Move.{Move}
 use Rattle.jl_folder.specs.declared.moves.Move.TheVariants.{MakeDir, Create, Append, Rename, Remove, RemoveDir}
 use Rattle.jl_folder.specs.State.{State}
-use Rattle.jl_claims.specs.Steps.{StepFact}
-use Rattle.jl_laws.specs.Tidy.{NodeHas}
-use Rattle.jl_laws.specs.Proper.{IsProper}
+use Rattle.jl_rely.specs.Steps.{StepFact}
+use Rattle.jl_protocol.specs.Tidy.{NodeHas}
+use Rattle.jl_protocol.specs.Proper.{IsProper}
 
 -- appends
 unfoldable pub IsAppend : Move → Type 0

@@ -15,7 +15,7 @@ use Rattle.jl_folder.specs.Reading.{IsUnwritten}
 use Rattle.jl_entry.specs.declared.names.EntryFile.TheVariants.{Output}
 use Rattle.jl_entry.specs.Names.{Final, entry_of, below, final_parts}
 use Rattle.jl_entry.specs.Entry.{Members, IsEntryOf, IsEntry, IsOther}
-use Rattle.jl_laws.specs.Whole.{most_bytes, Answers}
+use Rattle.jl_protocol.specs.Whole.{most_bytes, Answers}
 use Rattle.jl_store.specs.declared.memory.WarnKind.{WarnKind}
 use Rattle.jl_store.specs.declared.memory.WarnKind.TheVariants.{LoadFault, NotMine, Damaged}
 use Rattle.jl_store.specs.declared.memory.Warning.{Warning}

@@ -4,7 +4,7 @@ use Rattle.jl_text.specs.Counts.{Rose}
 use Rattle.jl_folder.specs.State.{State, History, is_folder, now, since}
 use Rattle.jl_value.specs.Key.{key_of}
 use Rattle.jl_value.specs.declared.key.Key.{Key}
-use Rattle.jl_claims.specs.Touches.{TouchedByOther}
+use Rattle.jl_rely.specs.Touches.{TouchedByOther}
 use Rattle.jl_store.specs.Keeping.{entry_path, function_path}
 use Rattle.jl_store.specs.Next.{Asked, entry_asked}
 use Rattle.jl_store.specs.Warned.{IsOrderly, UsesCall, IsCaused}

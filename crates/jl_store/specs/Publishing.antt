@@ -8,11 +8,11 @@ use Rattle.jl_folder.specs.declared.moves.Move.TheVariants.{Remove}
 use Rattle.jl_folder.specs.State.{State, Event, Trace, History, Opens, place_at, node_at, is_file, is_folder, has_parent, bytes_at, now, since}
 use Rattle.jl_folder.specs.Calls.{Creates, MaybeCreates, Maybe, OpensNew}
 use Rattle.jl_entry.specs.Names.{Final, IsTemp}
-use Rattle.jl_claims.specs.Claims.{Called, Anywhere}
-use Rattle.jl_claims.specs.Touches.{TouchedByOther}
-use Rattle.jl_laws.specs.Proper.{IsProper}
-use Rattle.jl_laws.specs.Tidy.{IsTidy}
-use Rattle.jl_laws.specs.Owned.{IsOwnFile}
+use Rattle.jl_rely.specs.Claims.{Called, Anywhere}
+use Rattle.jl_rely.specs.Touches.{TouchedByOther}
+use Rattle.jl_protocol.specs.Proper.{IsProper}
+use Rattle.jl_protocol.specs.Tidy.{IsTidy}
+use Rattle.jl_protocol.specs.Owned.{IsOwnFile}
 use Rattle.jl_store.specs.Kinds.{IsFor, PutsThis, UsesNames}
 use Rattle.jl_store.specs.declared.temporary.TempFile.{TempFile}
 use Rattle.jl_store.specs.declared.temporary.TempFile.TheVariants as temp_file

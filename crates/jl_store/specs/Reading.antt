@@ -5,10 +5,10 @@ use Rattle.jl_folder.specs.State.{State, Trace, AtSome, bytes_at}
 use Rattle.jl_folder.specs.declared.read.FileRead.{FileRead}
 use Rattle.jl_folder.specs.declared.read.FileRead.TheVariants as file_read
 use Rattle.jl_entry.specs.Names.{Final}
-use Rattle.jl_claims.specs.Steps.{AllSteps}
-use Rattle.jl_laws.specs.Whole.{IsWhole}
-use Rattle.jl_laws.specs.Proper.{IsProper}
-use Rattle.jl_laws.specs.Tidy.{IsTidy}
+use Rattle.jl_rely.specs.Steps.{AllSteps}
+use Rattle.jl_protocol.specs.Whole.{IsWhole}
+use Rattle.jl_protocol.specs.Proper.{IsProper}
+use Rattle.jl_protocol.specs.Tidy.{IsTidy}
 
 -- From a tidy state, where all steps are proper: at one step of the call the final name named a node with exactly these bytes, and they are whole for it.
 pub record FindsWhole (root : PathView) (x : Final) (last : PathView) (bytes : List ℕ) (s : State) (moves : Trace) : Type 0 where

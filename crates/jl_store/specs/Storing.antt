@@ -3,7 +3,7 @@ use Rattle.std.specs.Prelude.{◌≡◌, ◌⊎◌, ℕ, List, Some, ⊤}
 use Rattle.jl_text.specs.Paths.{PathView, parent}
 use Rattle.jl_folder.specs.declared.moves.Place.TheVariants.{Folder}
 use Rattle.jl_folder.specs.State.{History, place_at, now, since}
-use Rattle.jl_claims.specs.Touches.{TouchedByOther}
+use Rattle.jl_rely.specs.Touches.{TouchedByOther}
 use Rattle.jl_store.specs.Doing.{IsPrefix}
 use Rattle.jl_folder.specs.declared.folder.MadeDir.{MadeDir}
 use Rattle.jl_folder.specs.declared.folder.MadeDir.TheVariants as made_dir

@@ -5,11 +5,11 @@ use Rattle.jl_text.specs.Counts.{Rose}
 use Rattle.jl_folder.specs.State.{History, now, since}
 use Rattle.jl_value.specs.Key.{key_of}
 use Rattle.jl_entry.specs.Entry.{IsEntry, IsOther}
-use Rattle.jl_claims.specs.Steps.{AllSteps}
-use Rattle.jl_claims.specs.Touches.{TouchedByOther}
-use Rattle.jl_laws.specs.Whole.{most_bytes}
-use Rattle.jl_laws.specs.Tidy.{IsTidy}
-use Rattle.jl_laws.specs.Proper.{IsProper}
+use Rattle.jl_rely.specs.Steps.{AllSteps}
+use Rattle.jl_rely.specs.Touches.{TouchedByOther}
+use Rattle.jl_protocol.specs.Whole.{most_bytes}
+use Rattle.jl_protocol.specs.Tidy.{IsTidy}
+use Rattle.jl_protocol.specs.Proper.{IsProper}
 use Rattle.jl_store.specs.Checking.{UsesCode, function_path, code_path, code_temp}
 use Rattle.jl_store.specs.Keeping.{UsesEntry}
 use Rattle.jl_store.specs.Looking.{OpenedHas}

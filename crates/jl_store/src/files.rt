@@ -8,12 +8,12 @@ ghost use Rattle.jl_folder.specs.declared.moves.OpenFile.{OpenFile};
 ghost use Rattle.jl_folder.specs.declared.moves.Place.{Place};
 ghost use Rattle.jl_folder.specs.declared.moves.Move.{Move};
 ghost use Rattle.jl_entry.specs.Names.{Final, IsFinal, IsTemp};
-ghost use Rattle.jl_claims.specs.Steps.{IsLone};
-ghost use Rattle.jl_claims.specs.Claims.{Called, Anywhere, GoesOn};
-ghost use Rattle.jl_claims.specs.Touches.{TouchedByOther};
-ghost use Rattle.jl_laws.specs.Whole.{IsWhole};
-ghost use Rattle.jl_laws.specs.Proper.{IsProper};
-ghost use Rattle.jl_laws.specs.Owned.{IsOwnFile};
+ghost use Rattle.jl_rely.specs.Steps.{IsLone};
+ghost use Rattle.jl_rely.specs.Claims.{Called, Anywhere, GoesOn};
+ghost use Rattle.jl_rely.specs.Touches.{TouchedByOther};
+ghost use Rattle.jl_protocol.specs.Whole.{IsWhole};
+ghost use Rattle.jl_protocol.specs.Proper.{IsProper};
+ghost use Rattle.jl_protocol.specs.Owned.{IsOwnFile};
 ghost use Rattle.jl_store.specs.Kinds.{IsAppend, IsFor, PutsThis, UsesNames};
 ghost use Rattle.jl_store.specs.Publishing.{CallsOn, BytesLeft, EndsIn, Publishes, IsDraft, IsPublished, BytesAlone};
 

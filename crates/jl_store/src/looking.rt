@@ -5,10 +5,10 @@ ghost use Rattle.jl_folder.specs.State.{now, since};
 ghost use Rattle.jl_folder.specs.Calls.{Waits};
 ghost use Rattle.jl_text.specs.Counts.{Faults};
 ghost use Rattle.jl_entry.specs.Names.{root_of};
-ghost use Rattle.jl_claims.specs.Steps.{AllSteps};
-ghost use Rattle.jl_laws.specs.Whole.{Answers};
-ghost use Rattle.jl_laws.specs.Proper.{IsProper, IsLawful};
-ghost use Rattle.jl_laws.specs.Tidy.{IsTidy, IsSound};
+ghost use Rattle.jl_rely.specs.Steps.{AllSteps};
+ghost use Rattle.jl_protocol.specs.Whole.{Answers};
+ghost use Rattle.jl_protocol.specs.Proper.{IsProper, IsLawful};
+ghost use Rattle.jl_protocol.specs.Tidy.{IsTidy, IsSound};
 ghost use Rattle.jl_store.specs.Looking.{IsJudged, Finds, IsMiss, IsSettled, Looks, LooksTidy, IsAnswered, output_path};
 
 use crate::found::{Found, Look};

@@ -3,10 +3,10 @@ ghost use Rattle.std.specs.Prelude.{◌≡◌, true, false, ⊤};
 ghost use Rattle.jl_folder.specs.State.{is_folder, has_parent, now, since};
 ghost use Rattle.jl_folder.specs.Calls.{Call};
 ghost use Rattle.jl_text.specs.Counts.{Faults};
-ghost use Rattle.jl_claims.specs.Steps.{IsLone};
-ghost use Rattle.jl_claims.specs.Claims.{Anywhere, GoesOn};
-ghost use Rattle.jl_claims.specs.Touches.{TouchedByOther};
-ghost use Rattle.jl_laws.specs.Tidy.{IsTidy};
+ghost use Rattle.jl_rely.specs.Steps.{IsLone};
+ghost use Rattle.jl_rely.specs.Claims.{Anywhere, GoesOn};
+ghost use Rattle.jl_rely.specs.Touches.{TouchedByOther};
+ghost use Rattle.jl_protocol.specs.Tidy.{IsTidy};
 ghost use Rattle.jl_store.specs.Kinds.{IsOnName, UsesFile};
 ghost use Rattle.jl_store.specs.Publishing.{CallsOn, MakesFile, TakesAway, TempOpens, TempLeft, TempNamed, TempAlone};
 

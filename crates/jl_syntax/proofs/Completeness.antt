@@ -2,18 +2,18 @@
 use Rattle.std.proofs.Common.{◌≡◌, ℕ, suc, ◌+◌, ◌<◌, ◌≤◌, max, true, false, List, [], ◌∷◌, ◌++◌, Some, refl, sym, ap, ◌∙◌, arith, append_assoc}
 use Rattle.std.specs.Prelude.{nat_le, nat_lt}
 use Rattle.std.proofs.lemmas.List.{append-nil}
-use Rattle.jl_signs.specs.declared.operators.Operator.{Operator}
-use Rattle.jl_signs.specs.declared.operators.Operator.TheVariants.{Or, And, Equal, Unequal, Less, AtMost, Greater, AtLeast, Plus, Minus, Times, Quotient, Remainder}
-use Rattle.jl_signs.specs.declared.operators.Prefix.{Prefix}
-use Rattle.jl_signs.specs.declared.operators.Prefix.TheVariants.{Not, Negative}
-use Rattle.jl_signs.specs.declared.operators.Function.{Function}
-use Rattle.jl_signs.specs.declared.operators.Function.TheVariants.{Len, Sum, Min, Max, Range, Array}
+use Rattle.jl_lexer.specs.declared.operators.Operator.{Operator}
+use Rattle.jl_lexer.specs.declared.operators.Operator.TheVariants.{Or, And, Equal, Unequal, Less, AtMost, Greater, AtLeast, Plus, Minus, Times, Quotient, Remainder}
+use Rattle.jl_lexer.specs.declared.operators.Prefix.{Prefix}
+use Rattle.jl_lexer.specs.declared.operators.Prefix.TheVariants.{Not, Negative}
+use Rattle.jl_lexer.specs.declared.operators.Function.{Function}
+use Rattle.jl_lexer.specs.declared.operators.Function.TheVariants.{Len, Sum, Min, Max, Range, Array}
 use Rattle.jl_syntax.specs.declared.joint.Joint.TheVariants.{Infix}
 use Rattle.jl_syntax.specs.declared.machine.Frame.{Frame}
 use Rattle.jl_syntax.specs.declared.machine.Frame.TheVariants.{Bracket, Behind, Operand, Condition, Otherwise, Element, Member, Bound, Listed, Keyed, Source, Filter}
 use Rattle.jl_syntax.specs.declared.machine.Mode.TheVariants.{Wanted, Held, Key, Each}
-use Rattle.jl_signs.specs.Words.{is_leaf, is_form_word, is_truth_word, is_function_word, true_word, false_word, none_word, is_identifier, is_key}
-use Rattle.jl_signs.specs.Marks.{operator_word, prefix_word, if_word, else_word, for_word, in_word, prefix_of, function_word, own_level, left_level, prefix_level}
+use Rattle.jl_lexer.specs.Words.{is_leaf, is_form_word, is_truth_word, is_function_word, true_word, false_word, none_word, is_identifier, is_key}
+use Rattle.jl_lexer.specs.Marks.{operator_word, prefix_word, if_word, else_word, for_word, in_word, prefix_of, function_word, own_level, left_level, prefix_level}
 use Rattle.jl_syntax.specs.Trees.{Expression, tall, leaf, bracketed, before, between, choice, index, call, span, list, each, filtered, table, Members, no_members, member, members_of, Entries, no_entries, entry, entries_of}
 use Rattle.jl_syntax.specs.Grammar.{level, IsFormed, AreFormed, HaveFormed, words_of, more_members, more_entries, brackets, members_brackets, entries_brackets, round_open, round_close, square_open, square_close, curly_open, curly_close, comma, colon}
 use Rattle.jl_syntax.specs.Machine.{joint_of, wanted, depth, binds, top_binds, operated, Operands, reduced, unkeyed, nested, infixed, asked_by, top_is_source, looped_by, elsed_by, closed_by, ended_by, braced_by, parted_by, gone_on, Read, read, follow, run, whole_by}

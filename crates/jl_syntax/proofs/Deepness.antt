@@ -3,11 +3,11 @@ use Rattle.std.proofs.Common.{◌≡◌, ℕ, suc, ◌+◌, ◌<◌, ◌≤◌, 
 use Rattle.std.specs.Prelude.{nat_lt}
 use Rattle.std.proofs.lemmas.Bool.{cases_lt}
 use Rattle.std.proofs.lemmas.List.{append-nil}
-use Rattle.jl_signs.specs.declared.operators.Function.TheVariants.{Range}
+use Rattle.jl_lexer.specs.declared.operators.Function.TheVariants.{Range}
 use Rattle.jl_syntax.specs.declared.machine.Frame.{Frame}
 use Rattle.jl_syntax.specs.declared.machine.Frame.TheVariants.{Bracket, Behind, Operand, Condition, Otherwise, Element, Member, Bound, Listed, Keyed, Source, Filter}
 use Rattle.jl_syntax.specs.declared.machine.Mode.TheVariants.{Wanted}
-use Rattle.jl_signs.specs.Marks.{operator_word, if_word, else_word, for_word, in_word, function_word}
+use Rattle.jl_lexer.specs.Marks.{operator_word, if_word, else_word, for_word, in_word, function_word}
 use Rattle.jl_syntax.specs.Trees.{Expression, tall, leaf, bracketed, before, between, choice, index, call, span, list, each, filtered, table, Members, no_members, member, members_height, Entries, no_entries, entry, entries_height, height}
 use Rattle.jl_syntax.specs.Grammar.{level, IsFormed, AreFormed, HaveFormed, words_of, more_members, more_entries, brackets, members_brackets, entries_brackets, round_open, round_close, square_open, square_close, curly_open, curly_close, comma, colon}
 use Rattle.jl_syntax.specs.Machine.{wanted, depth, nested, unkeyed, Read, broken, nested_deep, follow, run, read_signs}

@@ -4,7 +4,7 @@ use Rattle.std.specs.Prelude.{nat_eq}
 use Rattle.jl_syntax.specs.declared.machine.Frame.{Frame}
 use Rattle.jl_syntax.specs.declared.machine.Frame.TheVariants.{Listed}
 use Rattle.jl_syntax.specs.declared.machine.Mode.TheVariants.{Held, Each}
-use Rattle.jl_signs.specs.Marks.{is_mark}
+use Rattle.jl_lexer.specs.Marks.{is_mark}
 use Rattle.jl_syntax.specs.Trees.{Expression, list, table, members_of, entries_of}
 use Rattle.jl_syntax.specs.Machine.{going, bad, emptied, looped_by, no_key, kept}
 

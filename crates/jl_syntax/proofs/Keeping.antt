@@ -2,19 +2,19 @@
 use Rattle.std.proofs.Common.{◌≡◌, ℕ, suc, ◌<◌, ◌≤◌, max, min, Bool, true, false, List, [], ◌∷◌, ◌++◌, Option, Some, None, refl, sym, ap, ap₂, ◌∙◌, arith, inl, inr}
 use Rattle.std.specs.Prelude.{nat_le, nat_lt, if◌then◌else◌}
 use Rattle.std.proofs.lemmas.Bool.{cases_lt}
-use Rattle.jl_signs.specs.declared.operators.Operator.{Operator}
-use Rattle.jl_signs.specs.declared.operators.Prefix.{Prefix}
-use Rattle.jl_signs.specs.declared.operators.Function.{Function}
-use Rattle.jl_signs.specs.declared.operators.Function.TheVariants.{Len, Sum, Min, Max, Range, Array}
+use Rattle.jl_lexer.specs.declared.operators.Operator.{Operator}
+use Rattle.jl_lexer.specs.declared.operators.Prefix.{Prefix}
+use Rattle.jl_lexer.specs.declared.operators.Function.{Function}
+use Rattle.jl_lexer.specs.declared.operators.Function.TheVariants.{Len, Sum, Min, Max, Range, Array}
 use Rattle.jl_syntax.specs.declared.joint.Joint.{Joint}
 use Rattle.jl_syntax.specs.declared.joint.Joint.TheVariants.{Infix, Opening, If, Else, For, Closing, Ending, Braced, Comma, Strange}
 use Rattle.jl_syntax.specs.declared.machine.Frame.{Frame}
 use Rattle.jl_syntax.specs.declared.machine.Frame.TheVariants.{Bracket, Behind, Operand, Condition, Otherwise, Element, Member, Bound, Listed, Keyed, Source, Filter}
 use Rattle.jl_syntax.specs.declared.machine.Mode.{Mode}
 use Rattle.jl_syntax.specs.declared.machine.Mode.TheVariants.{Wanted, Held, Calling, Key, Colon, Each, Naming}
-use Rattle.jl_signs.specs.Words.{is_leaf, is_identifier, is_key}
+use Rattle.jl_lexer.specs.Words.{is_leaf, is_identifier, is_key}
 use Rattle.std.specs.Str.{bytes_eq}
-use Rattle.jl_signs.specs.Marks.{is_mark, in_word, prefix_of, function_of, own_level, left_level, prefix_level}
+use Rattle.jl_lexer.specs.Marks.{is_mark, in_word, prefix_of, function_of, own_level, left_level, prefix_level}
 use Rattle.jl_syntax.specs.Trees.{Expression, tall, leaf, bracketed, before, between, choice, index, call, span, list, each, filtered, table, members_of, members_height, no_entries, entries_of, entries_height, height}
 use Rattle.jl_syntax.specs.Machine.{joint_of, wanted, is_bracket, depth, binds, operated, Operands, reduced, Step, going, bad, deep, begun, opened_or, emptied, unkeyed, nested, prefixed, infixed, conditioned, top_is_source, picked_by, asked_by, looped_by, elsed_by, closed_by, ended_by, braced_by, member_behind, parted_by, called_or, no_key, gone_on, step, Read, read, broken, nested_deep, whole_by, finished, follow, run, kept}
 

@@ -1,6 +1,6 @@
 -- The signs of lists and tables, with more members behind them.
 use Rattle.std.proofs.Common.{◌≡◌, ℕ, true, List, [], ◌∷◌, ◌++◌, refl, sym, ap, ◌∙◌, append_assoc}
-use Rattle.jl_signs.specs.Words.{is_key}
+use Rattle.jl_lexer.specs.Words.{is_key}
 use Rattle.jl_syntax.specs.Trees.{Expression, members_of, entries_of}
 use Rattle.jl_syntax.specs.Grammar.{IsFormed, AreFormed, HaveFormed, words_of, members_words, more_members, entries_words, more_entries, comma, colon}
 

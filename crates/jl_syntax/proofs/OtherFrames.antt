@@ -1,6 +1,6 @@
 -- Behind any other frame a sign is none that may stand there.
 use Rattle.std.proofs.Common.{◌≡◌, ℕ, List, ◌∷◌, refl}
-use Rattle.jl_signs.specs.declared.operators.Function.{Function}
+use Rattle.jl_lexer.specs.declared.operators.Function.{Function}
 use Rattle.jl_syntax.specs.declared.machine.Frame.{Frame}
 use Rattle.jl_syntax.specs.declared.machine.Frame.TheVariants.{Bracket, Behind, Operand, Condition, Otherwise, Element, Member, Bound, Listed, Keyed, Source, Filter}
 use Rattle.jl_syntax.specs.Trees.{Expression}

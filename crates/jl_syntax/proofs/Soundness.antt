@@ -4,20 +4,20 @@ use Rattle.std.specs.Prelude.{nat_le, nat_lt, if◌then◌else◌}
 use Rattle.std.proofs.lemmas.List.{append-nil}
 use Rattle.std.proofs.lemmas.Slice.Eq.{bytes_eq-Decides}
 use Rattle.std.specs.Str.{bytes_eq}
-use Rattle.jl_signs.specs.declared.operators.Operator.{Operator}
-use Rattle.jl_signs.specs.declared.operators.Operator.TheVariants.{Or, And, Equal, Unequal, Less, AtMost, Greater, AtLeast, Plus, Minus, Times, Quotient, Remainder}
-use Rattle.jl_signs.specs.declared.operators.Prefix.{Prefix}
-use Rattle.jl_signs.specs.declared.operators.Prefix.TheVariants.{Not, Negative}
-use Rattle.jl_signs.specs.declared.operators.Function.{Function}
-use Rattle.jl_signs.specs.declared.operators.Function.TheVariants.{Len, Sum, Min, Max, Range, Array}
+use Rattle.jl_lexer.specs.declared.operators.Operator.{Operator}
+use Rattle.jl_lexer.specs.declared.operators.Operator.TheVariants.{Or, And, Equal, Unequal, Less, AtMost, Greater, AtLeast, Plus, Minus, Times, Quotient, Remainder}
+use Rattle.jl_lexer.specs.declared.operators.Prefix.{Prefix}
+use Rattle.jl_lexer.specs.declared.operators.Prefix.TheVariants.{Not, Negative}
+use Rattle.jl_lexer.specs.declared.operators.Function.{Function}
+use Rattle.jl_lexer.specs.declared.operators.Function.TheVariants.{Len, Sum, Min, Max, Range, Array}
 use Rattle.jl_syntax.specs.declared.joint.Joint.{Joint}
 use Rattle.jl_syntax.specs.declared.joint.Joint.TheVariants.{Infix, Opening, If, Else, For, Closing, Ending, Braced, Comma, Strange}
 use Rattle.jl_syntax.specs.declared.machine.Frame.{Frame}
 use Rattle.jl_syntax.specs.declared.machine.Frame.TheVariants.{Bracket, Behind, Operand, Condition, Otherwise, Element, Member, Bound, Listed, Keyed, Source, Filter}
 use Rattle.jl_syntax.specs.declared.machine.Mode.{Mode}
 use Rattle.jl_syntax.specs.declared.machine.Mode.TheVariants.{Wanted, Held, Calling, Key, Colon, Each, Naming}
-use Rattle.jl_signs.specs.Words.{is_leaf, is_identifier, is_key}
-use Rattle.jl_signs.specs.Marks.{is_mark, operator_word, operator_among, operator_of, prefix_word, prefix_of, function_word, function_among, function_of, if_word, else_word, for_word, in_word, own_level, left_level, prefix_level}
+use Rattle.jl_lexer.specs.Words.{is_leaf, is_identifier, is_key}
+use Rattle.jl_lexer.specs.Marks.{is_mark, operator_word, operator_among, operator_of, prefix_word, prefix_of, function_word, function_among, function_of, if_word, else_word, for_word, in_word, own_level, left_level, prefix_level}
 use Rattle.jl_syntax.specs.Trees.{Expression, leaf, table, members_of, no_entries, entries_of}
 use Rattle.jl_syntax.specs.Grammar.{level, IsFormed, AreFormed, HaveFormed, words_of, round_open, round_close, square_open, square_close, curly_open, curly_close, comma, colon}
 use Rattle.jl_syntax.specs.Machine.{loop_joint, mark_joint, joint_by, joint_of, wanted_by, wanted, depth, binds, operated, Operands, reduced, Step, going, bad, deep, begun, opened_or, emptied, unkeyed, nested, prefixed, infixed, conditioned, top_is_source, picked_by, asked_by, looped_by, elsed_by, closed_by, ended_by, braced_by, member_behind, parted_by, called_or, no_key, keyed, valued, varied, sourced, gone_on, step, Read, read, whole_by, finished, follow, run}

@@ -2,12 +2,12 @@
 use Rattle.std.proofs.Common.{◌≡◌, ◌≢◌, ℕ, zero, suc, List, refl, ap, arith}
 use Rattle.std.specs.Coded.{Coded, code_by, coded×, coded_ℕ, coded_list}
 use base.Stored.{Gv, gnil, gnum, gcons}
-use Rattle.jl_signs.specs.declared.operators.Operator.{Operator}
-use Rattle.jl_signs.specs.declared.operators.Operator.TheVariants.{Or, And, Equal, Unequal, Less, AtMost, Greater, AtLeast, Plus, Minus, Times, Quotient, Remainder}
-use Rattle.jl_signs.specs.declared.operators.Prefix.{Prefix}
-use Rattle.jl_signs.specs.declared.operators.Prefix.TheVariants.{Not, Negative}
-use Rattle.jl_signs.specs.declared.operators.Function.{Function}
-use Rattle.jl_signs.specs.declared.operators.Function.TheVariants.{Len, Sum, Min, Max, Range, Array}
+use Rattle.jl_lexer.specs.declared.operators.Operator.{Operator}
+use Rattle.jl_lexer.specs.declared.operators.Operator.TheVariants.{Or, And, Equal, Unequal, Less, AtMost, Greater, AtLeast, Plus, Minus, Times, Quotient, Remainder}
+use Rattle.jl_lexer.specs.declared.operators.Prefix.{Prefix}
+use Rattle.jl_lexer.specs.declared.operators.Prefix.TheVariants.{Not, Negative}
+use Rattle.jl_lexer.specs.declared.operators.Function.{Function}
+use Rattle.jl_lexer.specs.declared.operators.Function.TheVariants.{Len, Sum, Min, Max, Range, Array}
 use Rattle.jl_syntax.specs.Trees.{Expression, tall, leaf, bracketed, before, between, choice, index, call, span, list, each, filtered, table, Members, no_members, member, Entries, no_entries, entry}
 
 abbrev pub operator_number : Operator → ℕ

@@ -14,9 +14,9 @@
 --   FUN    := "len" | "sum" | "min" | "max" | "range" | "array"
 -- The rules have the levels 0 (choice) to 8 (post and atom); operators of one level bind from the left. A KEY is any TEXT but `$i64`.
 use Rattle.std.specs.Prelude.{◌≡◌, ◌≤◌, ◌<◌, ℕ, suc, max, true, List, [], ◌∷◌, ◌++◌, ⊤}
-use Rattle.jl_signs.specs.declared.operators.Function.TheVariants.{Range}
-use Rattle.jl_signs.specs.Words.{is_leaf, is_identifier, is_key}
-use Rattle.jl_signs.specs.Marks.{operator_word, prefix_word, if_word, else_word, for_word, in_word, own_level, left_level, prefix_level, function_word}
+use Rattle.jl_lexer.specs.declared.operators.Function.TheVariants.{Range}
+use Rattle.jl_lexer.specs.Words.{is_leaf, is_identifier, is_key}
+use Rattle.jl_lexer.specs.Marks.{operator_word, prefix_word, if_word, else_word, for_word, in_word, own_level, left_level, prefix_level, function_word}
 use Rattle.jl_syntax.specs.Trees.{Expression, tall, leaf, bracketed, before, between, choice, index, call, span, list, each, filtered, table, Members, no_members, member, Entries, no_entries, entry}
 
 -- the rule that an expression is of

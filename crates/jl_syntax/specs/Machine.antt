@@ -1,18 +1,18 @@
 -- Reading an expression from left to right, sign by sign, with what waits for an operand on a stack.
 use Rattle.std.specs.Prelude.{ℕ, suc, Bool, true, false, nat_le, nat_lt, if◌then◌else◌, List, [], ◌∷◌, ◌++◌, Option, Some, None}
 use Rattle.std.specs.Str.{bytes_eq}
-use Rattle.jl_signs.specs.declared.operators.Operator.{Operator}
-use Rattle.jl_signs.specs.declared.operators.Prefix.{Prefix}
-use Rattle.jl_signs.specs.declared.operators.Function.{Function}
-use Rattle.jl_signs.specs.declared.operators.Function.TheVariants.{Len, Sum, Min, Max, Range, Array}
+use Rattle.jl_lexer.specs.declared.operators.Operator.{Operator}
+use Rattle.jl_lexer.specs.declared.operators.Prefix.{Prefix}
+use Rattle.jl_lexer.specs.declared.operators.Function.{Function}
+use Rattle.jl_lexer.specs.declared.operators.Function.TheVariants.{Len, Sum, Min, Max, Range, Array}
 use Rattle.jl_syntax.specs.declared.machine.Frame.{Frame}
 use Rattle.jl_syntax.specs.declared.machine.Frame.TheVariants.{Bracket, Behind, Operand, Condition, Otherwise, Element, Member, Bound, Listed, Keyed, Source, Filter}
 use Rattle.jl_syntax.specs.declared.machine.Mode.{Mode}
 use Rattle.jl_syntax.specs.declared.machine.Mode.TheVariants.{Wanted, Held, Calling, Key, Colon, Each, Naming}
 use Rattle.jl_syntax.specs.declared.joint.Joint.{Joint}
 use Rattle.jl_syntax.specs.declared.joint.Joint.TheVariants.{Infix, Opening, If, Else, For, Closing, Ending, Braced, Comma, Strange}
-use Rattle.jl_signs.specs.Words.{is_leaf, is_identifier, is_key}
-use Rattle.jl_signs.specs.Marks.{is_mark, if_word, else_word, for_word, in_word, operator_of, prefix_of, function_of, own_level, left_level, prefix_level}
+use Rattle.jl_lexer.specs.Words.{is_leaf, is_identifier, is_key}
+use Rattle.jl_lexer.specs.Marks.{is_mark, if_word, else_word, for_word, in_word, operator_of, prefix_of, function_of, own_level, left_level, prefix_level}
 use Rattle.jl_syntax.specs.Trees.{Expression, tall, leaf, bracketed, before, between, choice, index, call, span, list, each, filtered, table, no_members, members_of, no_entries, entries_of, height}
 
 -- what a sign is, where an operand stands before it

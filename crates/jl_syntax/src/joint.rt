@@ -1,7 +1,7 @@
 ghost use Rattle.std.specs.Prelude.{◌≡◌};
 ghost use Rattle.jl_syntax.specs.Machine.{loop_joint as loop_joint_of, mark_joint as mark_joint_of, joint_of};
 
-use jl_signs::{Operator, is_mark, operator};
+use jl_lexer::{Operator, is_mark, operator};
 
 /// What a sign is behind an operand.
 #[derive(Clone, Copy)]

@@ -6,7 +6,7 @@ ghost use Rattle.jl_syntax.specs.declared.machine.Frame.TheVariants.{Listed};
 
 use crate::machine::{Frame, Mode, Operands, Reader, Stack, Stop, opened};
 use crate::tree::{Entries, Members, Tree};
-use jl_signs::{Key, Name, is_identifier, is_mark};
+use jl_lexer::{Key, Name, is_identifier, is_mark};
 use std::alloc::Global;
 
 // A `]` behind the members of a list.

@@ -2,12 +2,12 @@ ghost use Rattle.std.specs.Prelude.{◌≡◌, ◌∷◌, [], ◌<◌, ◌≤◌
 ghost use Rattle.jl_syntax.specs.Machine.{wanted_by as wanted_by_of, wanted as wanted_of, is_bracket as is_bracket_of, depth as depth_of, binds as binds_of, top_binds as top_binds_of, operated as operated_of, kept, reduced as reduced_of, nested, prefixed as prefixed_of, begun as begun_of, infixed as infixed_of, is_source as is_source_of, top_is_source as top_is_source_of, conditioned as conditioned_of, picked_by, asked_by, opened_or, elsed_by, closed_by, ended_by, member_behind, parted_by, called as called_of, gone_on as gone_on_of, step as step_of, finished, whole_by, run};
 ghost use Rattle.jl_syntax.specs.Steps.{IsStep, IsRead};
 ghost use Rattle.jl_syntax.specs.declared.machine.Mode.TheVariants.{Wanted};
-ghost use Rattle.jl_signs.specs.Signs.{signs};
+ghost use Rattle.jl_lexer.specs.Signs.{signs};
 
 use crate::joint::{Joint, read_joint};
 use crate::lists::{braced, emptied, keyed, looped, sourced, unkeyed, valued, varied};
 use crate::tree::{Entries, Members, Tree};
-use jl_signs::{
+use jl_lexer::{
     Function, Key, Name, Operator, Prefix, Word, function, is_mark, left_level, next_sign,
     own_level, prefix, prefix_level,
 };

@@ -3,7 +3,7 @@ ghost use Rattle.jl_syntax.specs.Trees.{leaf, bracketed, before, between, choice
 ghost use Rattle.jl_syntax.specs.Machine.{kept as kept_of};
 ghost use Rattle.jl_syntax.specs.Form.{expression_of};
 
-use jl_signs::{Function, Key, Name, Operator, Prefix, Word};
+use jl_lexer::{Function, Key, Name, Operator, Prefix, Word};
 use std::alloc::{AllocError, Global};
 use std::marker::Model;
 

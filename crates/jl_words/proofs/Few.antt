@@ -5,8 +5,8 @@ use Rattle.std.proofs.Math.Nat.{mul-le-mul_left, mul-le-mul_right, mul_assoc, on
 use Rattle.std.proofs.lemmas.Grind.{common_steps, pow_more}
 use Rattle.std.proofs.lemmas.Bool.Decides.{nat_tests}
 use Rattle.std.proofs.lemmas.Option.{none-some, same_Some}
-use Rattle.jl_limits.specs.Digits.{is_digit, longer, decimal, within_64, are_digits}
-use Rattle.jl_limits.specs.Limits.{count_of}
+use Rattle.jl_quota.specs.Digits.{is_digit, longer, decimal, within_64, are_digits}
+use Rattle.jl_quota.specs.Limits.{count_of}
 
 small_digit : (d : ℕ) → is_digit d ≡ true → d - 48 ≤ 9
 small_digit d h = grind (arith, nat_tests, common_steps)

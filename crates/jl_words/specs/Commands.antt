@@ -5,8 +5,8 @@ use Rattle.jl_text.specs.Paths.{PathView}
 use Rattle.jl_batch.specs.declared.window.Window.{Window}
 use Rattle.jl_batch.specs.declared.auto.BatchSize.{BatchSize}
 use Rattle.jl_batch.specs.Reads.{window_of}
-use Rattle.jl_limits.specs.Limits.{count_of, size_of, age_of}
-use Rattle.jl_limits.specs.declared.limits.Limits.{Limits}
+use Rattle.jl_quota.specs.Limits.{count_of, size_of, age_of}
+use Rattle.jl_quota.specs.declared.limits.Limits.{Limits}
 use Rattle.jl_words.specs.ModuleNames.{name_of}
 use Rattle.jl_words.specs.Reading.{Text, Said}
 use Rattle.jl_words.specs.Values.{required, optional, path_in, module_in, jobs_in, backend_in, batch_in, mode_in, most_bytes_in, count_up_to, key_in}

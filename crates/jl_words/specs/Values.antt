@@ -8,7 +8,7 @@ use Rattle.jl_text.specs.Paths.{PathView, path_of, is_bad}
 use Rattle.jl_batch.specs.declared.auto.BatchSize.{BatchSize}
 use Rattle.jl_batch.specs.declared.auto.BatchSize.TheVariants.{Auto, Fixed}
 use Rattle.jl_batch.specs.Jobs.{jobs_of}
-use Rattle.jl_limits.specs.Limits.{count_of, size_of}
+use Rattle.jl_quota.specs.Limits.{count_of, size_of}
 use Rattle.jl_value.specs.declared.key.Key.{Key}
 use Rattle.jl_words.specs.ModuleNames.{module_name_of}
 use Rattle.jl_words.specs.Reading.{Text}

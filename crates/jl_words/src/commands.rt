@@ -1,6 +1,6 @@
 // What the options and plain words of each command set.
 ghost use Rattle.std.specs.Prelude.{◌≡◌, [], ◌∷◌, map, Some, None, Ok, Err, IfOk, codes};
-ghost use Rattle.jl_limits.specs.Limits.{size_of, count_of, age_of};
+ghost use Rattle.jl_quota.specs.Limits.{size_of, count_of, age_of};
 ghost use Rattle.jl_words.specs.Parts.{said_in};
 ghost use Rattle.jl_words.specs.ModuleNames.{name_of};
 ghost use Rattle.jl_words.specs.Values.{required, optional, count_up_to};
@@ -9,7 +9,7 @@ ghost use Rattle.jl_words.specs.Commands.{call_with, call_of, hash_of, session_o
 use crate::parts::Parts;
 use crate::types::{Settings, SettingsFault};
 use crate::values::{count_up_to, key, location, module, some_location};
-use jl_limits::{Limits, read_age, read_count, read_size};
+use jl_quota::{Limits, read_age, read_count, read_size};
 use jl_text::{Path, Text, is_name};
 use std::alloc::{AllocError, Global};
 

@@ -1,6 +1,6 @@
 use crate::{Backend, Mode, Settings, SettingsFault, module_name, settings};
 use jl_batch::{BatchSize, Window};
-use jl_limits::Limits;
+use jl_quota::Limits;
 use jl_text::{Path, Text};
 use std::alloc::{AllocError, Global};
 use std::test::Fail;

@@ -1,6 +1,6 @@
 // What a command line sets.
 use jl_batch::{BatchSize, Window};
-use jl_limits::Limits;
+use jl_quota::Limits;
 use jl_text::{Path, Text};
 use jl_value::Key;
 use std::alloc::{AllocError, AllocFailed};

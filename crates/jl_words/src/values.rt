@@ -9,7 +9,7 @@ use crate::parts::Parts;
 use crate::types::{Backend, Mode, SettingsFault};
 use hex::FromHex;
 use jl_batch::{BatchSize, effective_jobs};
-use jl_limits::{read_count, read_size};
+use jl_quota::{read_count, read_size};
 use jl_text::{Path, PathFault};
 use jl_value::Key;
 use std::alloc::Global;

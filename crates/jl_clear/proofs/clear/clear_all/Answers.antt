@@ -1,7 +1,7 @@
 use Rattle.std.proofs.Common.{◌≡◌, subst}
 use Rattle.jl_text.specs.Paths.{PathView}
 use Rattle.jl_entry.specs.Names.{root_of}
-use Rattle.jl_claims.specs.Claims.{Anywhere}
+use Rattle.jl_rely.specs.Claims.{Anywhere}
 use Rattle.jl_clear.specs.declared.removing.Clear.TheVariants.{Cleared, Fault, NoMemory}
 use Rattle.jl_clear.specs.Taking.{IsInside}
 use Rattle.jl_clear.specs.Clearing.{Clears}

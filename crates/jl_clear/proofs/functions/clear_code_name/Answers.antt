@@ -1,6 +1,6 @@
 use Rattle.std.proofs.Common.{◌≡◌, ◌∙◌, ◌∷◌, [], true≢false, sym, subst}
 use Rattle.jl_entry.specs.Names.{IsBelow, IsStoreName}
-use Rattle.jl_claims.specs.Claims.{Anywhere}
+use Rattle.jl_rely.specs.Claims.{Anywhere}
 use Rattle.jl_clear.specs.declared.removing.Clear.TheVariants.{Cleared, Fault, NoMemory}
 use Rattle.jl_clear.specs.Taking.{IsCodeName}
 use Rattle.jl_clear.specs.Clearing.{ClearsPart}

@@ -1,6 +1,6 @@
 use Rattle.std.proofs.Common.{◌≡◌, List, refl, subst}
 use Rattle.jl_folder.specs.declared.listing.Name.{Name}
-use Rattle.jl_claims.specs.Claims.{Anywhere}
+use Rattle.jl_rely.specs.Claims.{Anywhere}
 use Rattle.jl_clear.specs.declared.removing.Clear.TheVariants.{Cleared, Fault, NoMemory}
 use Rattle.jl_clear.specs.Taking.{IsKeyName}
 use Rattle.jl_clear.specs.Clearing.{Clears, Handled, IsOfEntries}

@@ -1,6 +1,6 @@
 use Rattle.std.proofs.Common.{◌≡◌, refl, inl}
 use Rattle.jl_entry.specs.Names.{IsBelow}
-use Rattle.jl_claims.specs.Claims.{Anywhere}
+use Rattle.jl_rely.specs.Claims.{Anywhere}
 use Rattle.jl_clear.specs.declared.removing.Clear.TheVariants.{Cleared, Fault}
 use Rattle.jl_clear.specs.Taking.{IsCodeName}
 use Rattle.jl_clear.specs.Clearing.{HasCode, Handled, IsEmptied}

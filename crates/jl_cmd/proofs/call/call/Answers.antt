@@ -5,8 +5,8 @@ use Rattle.jl_store.specs.Trust.{IsTrusted}
 use Rattle.jl_cmd.specs.Output.{Output, call_output}
 use Rattle.jl_cmd.specs.Endings.{Scene, Tells, scene, tells}
 use Rattle.jl_folder.specs.State.{History, since}
-use Rattle.jl_claims.specs.Steps.{IsLone, OwnMoves}
-use Rattle.jl_claims.specs.Claims.{Silent}
+use Rattle.jl_rely.specs.Steps.{IsLone, OwnMoves}
+use Rattle.jl_rely.specs.Claims.{Silent}
 use Rattle.jl_store.specs.declared.memory.Warning.{Warning}
 use Rattle.jl_cmd.specs.declared.ended.Ended.TheVariants.{NoMemory}
 use Rattle.jl_cmd.specs.Texts.{warning_lines}

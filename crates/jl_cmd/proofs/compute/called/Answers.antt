@@ -1,5 +1,5 @@
 use Rattle.std.proofs.Common.{rules, [], IsSome, inl, inr, refl, sym, append-nil}
-use Rattle.jl_laws.proofs.Before.{some_of}
+use Rattle.jl_protocol.proofs.Before.{some_of}
 use Rattle.jl_store.proofs.Lawfully.{lawful_none}
 use Rattle.jl_cmd.proofs.CallingLemmas.{computed_map, refused_at}
 use Rattle.jl_cmd.proofs.compute.called.Goals as goal

@@ -10,8 +10,8 @@ use Rattle.jl_cmd.specs.Coming.{GivenComes, EndsWith}
 use Rattle.jl_cmd.proofs.ComingLemmas.{comes_nothing}
 use Rattle.jl_cmd.proofs.CallingLemmas.{given_nothing, usage_at_end, memory_at_end}
 use Rattle.jl_folder.specs.State.{since}
-use Rattle.jl_claims.specs.Steps.{OwnMoves}
-use Rattle.jl_claims.specs.Claims.{Silent}
+use Rattle.jl_rely.specs.Steps.{OwnMoves}
+use Rattle.jl_rely.specs.Claims.{Silent}
 use Rattle.jl_cmd.specs.Promises.{IsUnmoved}
 use Rattle.jl_cmd.proofs.IdleLemmas.{silent_none}
 use Rattle.jl_cmd.specs.Clears.{GivenClears}

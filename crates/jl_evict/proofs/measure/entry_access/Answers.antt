@@ -3,7 +3,7 @@ use Rattle.jl_evict.specs.declared.measure.Measure.TheVariants.{NoMemory}
 use Rattle.jl_evict.specs.Walks.{Tells, IsMeasured, IsMeasureFault, Accessed}
 use Rattle.jl_entry.specs.Names.{entry_part}
 use Rattle.jl_entry.specs.declared.names.EntryFile.TheVariants.{Access}
-use Rattle.jl_claims.specs.Claims.{Anywhere}
+use Rattle.jl_rely.specs.Claims.{Anywhere}
 use Rattle.jl_text.specs.Paths.{PathView}
 use Rattle.jl_evict.proofs.TellLemmas.{tells_none}
 use Rattle.jl_evict.proofs.measure.entry_access.Goals as goal

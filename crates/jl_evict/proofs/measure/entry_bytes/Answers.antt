@@ -3,7 +3,7 @@ use Rattle.jl_evict.specs.declared.measure.Measure.TheVariants.{Number}
 use Rattle.jl_evict.specs.Walks.{IsMeasured, IsMeasureFault, Sized, Summed}
 use Rattle.std.proofs.lemmas.List.{take_all}
 use Rattle.jl_folder.specs.declared.listing.Name.{Name}
-use Rattle.jl_claims.specs.Claims.{Anywhere}
+use Rattle.jl_rely.specs.Claims.{Anywhere}
 use Rattle.jl_evict.specs.Items.{held, size_at}
 use Rattle.jl_evict.proofs.TellLemmas.{tells_none, tells_as, tells_then, tells_stop}
 use Rattle.jl_evict.proofs.MeasureLemmas.{held_more, held_none, unmeasured}

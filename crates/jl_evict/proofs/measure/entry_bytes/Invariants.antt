@@ -1,6 +1,6 @@
 use Rattle.std.proofs.Common.{◌≡◌, ◌++◌, ◌∷◌, [], take, sum_by}
 use Rattle.jl_folder.specs.declared.listing.Name.{Name}
-use Rattle.jl_claims.specs.Claims.{Anywhere}
+use Rattle.jl_rely.specs.Claims.{Anywhere}
 use Rattle.jl_evict.specs.Items.{held, size_at}
 use Rattle.jl_evict.specs.Walks.{Tells}
 use Rattle.jl_evict.proofs.measure.entry_bytes.Given as goal

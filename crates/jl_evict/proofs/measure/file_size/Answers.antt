@@ -2,7 +2,7 @@ use Rattle.std.proofs.Common.{sym, subst}
 use Rattle.jl_evict.specs.declared.measure.Measure.{Measure}
 use Rattle.jl_evict.specs.Walks.{Tells, IsMeasured, IsMeasureFault, measure_of, Sized}
 use Rattle.jl_folder.specs.Calls.{SizesFile}
-use Rattle.jl_claims.specs.Claims.{Anywhere}
+use Rattle.jl_rely.specs.Claims.{Anywhere}
 use Rattle.jl_evict.proofs.TellLemmas.{tells_call}
 use Rattle.jl_evict.proofs.MeasureLemmas.{size_still, size_fault, sized}
 use Rattle.jl_evict.proofs.measure.file_size.Goals as goal

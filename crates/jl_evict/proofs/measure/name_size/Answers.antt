@@ -1,7 +1,7 @@
 use Rattle.std.proofs.Common.{◌++◌, ◌∷◌, [], subst}
 use Rattle.jl_evict.specs.declared.measure.Measure.TheVariants.{NoMemory}
 use Rattle.jl_evict.specs.Walks.{Tells, IsMeasured, IsMeasureFault, Sized}
-use Rattle.jl_claims.specs.Claims.{Anywhere}
+use Rattle.jl_rely.specs.Claims.{Anywhere}
 use Rattle.jl_text.specs.Paths.{PathView}
 use Rattle.jl_evict.proofs.TellLemmas.{tells_none}
 use Rattle.jl_evict.proofs.measure.name_size.Goals as goal

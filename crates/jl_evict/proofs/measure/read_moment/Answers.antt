@@ -3,7 +3,7 @@ use Rattle.jl_evict.specs.declared.measure.Measure.TheVariants.{Number, Fault, N
 use Rattle.jl_evict.specs.Walks.{IsMeasured, IsMeasureFault, Accessed}
 use Rattle.jl_folder.specs.State.{now, since, is_file}
 use Rattle.jl_folder.specs.Reading.{ReadsNamed}
-use Rattle.jl_claims.specs.Claims.{Anywhere}
+use Rattle.jl_rely.specs.Claims.{Anywhere}
 use Rattle.jl_clear.proofs.Listings.{at_some}
 use Rattle.jl_evict.proofs.TellLemmas.{tells_waits}
 use Rattle.jl_evict.proofs.MeasureLemmas.{accessed_read, accessed_none}

@@ -2,7 +2,7 @@ use Rattle.std.proofs.Common.{◌≡◌, refl, subst}
 use Rattle.jl_text.specs.Paths.{PathView}
 use Rattle.jl_folder.proofs.ReadingLemmas.{waits_none}
 use Rattle.jl_entry.specs.Names.{IsBelow, root_of}
-use Rattle.jl_claims.specs.Claims.{Anywhere}
+use Rattle.jl_rely.specs.Claims.{Anywhere}
 use Rattle.jl_evict.specs.declared.walk.Walk.TheVariants as walk
 use Rattle.jl_evict.specs.Walks.{Adds}
 use Rattle.jl_evict.proofs.ReduceLemmas.{state_now, read_waits, read_paths, read_alone}

@@ -1,5 +1,5 @@
 use Rattle.std.proofs.Common.{◌≡◌, List, take, subst, sym}
-use Rattle.jl_claims.specs.Claims.{Anywhere}
+use Rattle.jl_rely.specs.Claims.{Anywhere}
 use Rattle.jl_clear.specs.Clearing.{Clears}
 use Rattle.jl_evict.specs.declared.item.Item.{Item}
 use Rattle.jl_evict.specs.declared.reducing.Reduced.TheVariants as reduced

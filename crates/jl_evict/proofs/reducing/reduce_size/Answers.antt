@@ -1,7 +1,7 @@
 use Rattle.std.proofs.Common.{◌≡◌, refl, subst}
 use Rattle.jl_text.specs.Paths.{PathView}
 use Rattle.jl_entry.specs.Names.{root_of}
-use Rattle.jl_claims.specs.Claims.{Anywhere}
+use Rattle.jl_rely.specs.Claims.{Anywhere}
 use Rattle.jl_clear.proofs.Parts.{clears_none}
 use Rattle.jl_clear.proofs.Claims.{claims_faults, claims_called, claims_lawful}
 use Rattle.jl_evict.specs.declared.reducing.Reduced.TheVariants as reduced

@@ -1,7 +1,7 @@
 use Rattle.std.proofs.Common.{◌≡◌, ◌+◌, ◌∙◌, ◌++◌, List, ◌∷◌, [], take, refl, sym, ap, subst, arith, length-take, add-one}
 use Rattle.jl_folder.specs.declared.listing.Name.{Name}
 use Rattle.jl_entry.specs.Names.{IsBelow}
-use Rattle.jl_claims.specs.Claims.{Anywhere}
+use Rattle.jl_rely.specs.Claims.{Anywhere}
 use Rattle.jl_evict.specs.declared.walk.Walk.TheVariants as walk
 use Rattle.jl_evict.specs.Walks.{Under, AreDistinct}
 use Rattle.std.proofs.Math.Seq.{take-suc}

@@ -1,6 +1,6 @@
 use Rattle.std.proofs.Common.{◌≡◌, [], true, refl}
 use Rattle.jl_entry.specs.Names.{IsBelow}
-use Rattle.jl_claims.specs.Claims.{Anywhere}
+use Rattle.jl_rely.specs.Claims.{Anywhere}
 use Rattle.jl_evict.specs.declared.walk.Walk.TheVariants as walk
 use Rattle.jl_evict.specs.Walks.{IsSizedEntry, Listing, IsMeasured, IsMeasureFault, Summed}
 use Rattle.jl_evict.specs.declared.measure.Measure.TheVariants as measure

@@ -1,6 +1,6 @@
 use Rattle.std.proofs.Common.{◌≡◌, ◌++◌, ◌∷◌, []}
 use Rattle.jl_entry.specs.Names.{IsBelow, entry_part}
-use Rattle.jl_claims.specs.Claims.{Anywhere}
+use Rattle.jl_rely.specs.Claims.{Anywhere}
 use Rattle.jl_evict.specs.declared.walk.Walk.TheVariants as walk
 use Rattle.jl_evict.specs.Walks.{IsSizedEntry, IsMeasured, IsMeasureFault, Accessed}
 use Rattle.jl_evict.specs.declared.measure.Measure.TheVariants as measure

@@ -3,8 +3,8 @@ use Rattle.std.specs.Prelude.{Some}
 use Rattle.jl_value.specs.Form.{tree_of, trees_of}
 use Rattle.jl_syntax.specs.Trees.{entries_of}
 use Rattle.jl_syntax.proofs.HeightLemmas.{member_height, entry_height}
-use Rattle.jl_operations.specs.Outcomes.{pairs_in}
-use Rattle.jl_operations.proofs.TableLemmas.{no_keys}
+use Rattle.jl_builtins.specs.Outcomes.{pairs_in}
+use Rattle.jl_builtins.proofs.TableLemmas.{no_keys}
 use Rattle.jl_lang.specs.Meaning.{value_of, entries_value}
 use Rattle.jl_lang.specs.Scopes.{scope_of}
 use Rattle.jl_lang.proofs.EachLemmas.{each_answer, filtered_answer}

@@ -3,9 +3,9 @@ use Rattle.jl_value.specs.Tree.{members_of as pairs_of}
 use Rattle.jl_value.specs.Form.{trees_of}
 use Rattle.jl_value.specs.Proper.{AreKeys, keys}
 use Rattle.jl_syntax.specs.Trees.{height, members_of, members_height, entries_of, entries_height}
-use Rattle.jl_operations.specs.Lists.{each_over, filtered_over}
+use Rattle.jl_builtins.specs.Lists.{each_over, filtered_over}
 use Rattle.jl_lang.specs.Meaning.{value_of, members_value, entries_value}
-use Rattle.jl_operations.specs.Outcomes.{pairs_in}
+use Rattle.jl_builtins.specs.Outcomes.{pairs_in}
 use Rattle.jl_lang.specs.Scopes.{scope_of}
 use Rattle.jl_lang.proofs.evaluator.+evaluate.Given as goal
 

@@ -1,6 +1,6 @@
 use Rattle.std.proofs.Common.{sym, ◌∙◌}
 use Rattle.std.proofs.lemmas.Str.{is_utf8-from_IsUtf8}
-use Rattle.jl_signs.proofs.TextLemmas.{not_utf8}
+use Rattle.jl_lexer.proofs.TextLemmas.{not_utf8}
 use Rattle.jl_module.proofs.LineLemmas.{begins_by, begins_not}
 use Rattle.jl_module.proofs.module.definition_text.Goals as goal
 

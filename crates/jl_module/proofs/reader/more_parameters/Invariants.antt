@@ -1,5 +1,5 @@
 use Rattle.std.proofs.Common.{◌≡◌, length}
-use Rattle.jl_signs.specs.Signs.{signs}
+use Rattle.jl_lexer.specs.Signs.{signs}
 use Rattle.jl_module.specs.Headings.{more_parameters}
 use Rattle.jl_module.proofs.reader.more_parameters.Given as goal
 

@@ -1,6 +1,6 @@
 use Rattle.std.proofs.Common.{◌≡◌, true, false, arith}
-use Rattle.jl_signs.specs.Words.{is_identifier}
-use Rattle.jl_signs.specs.Marks.{is_mark}
+use Rattle.jl_lexer.specs.Words.{is_identifier}
+use Rattle.jl_lexer.specs.Marks.{is_mark}
 use Rattle.jl_module.proofs.ReaderLemmas.{parameter_on}
 use Rattle.jl_module.proofs.reader.next_parameter.Goals as goal
 

@@ -5,10 +5,10 @@ use Rattle.jl_folder.specs.Calls.{Waits}
 use Rattle.jl_entry.specs.Names.{root_of}
 use Rattle.jl_entry.specs.Moments.{access_text}
 use Rattle.jl_entry.specs.declared.names.EntryFile.TheVariants.{Access}
-use Rattle.jl_claims.specs.Steps.{IsLone}
-use Rattle.jl_claims.specs.Touches.{TouchedByOther}
-use Rattle.jl_claims.proofs.Alone.{lone_parts, waits_alone}
-use Rattle.jl_claims.proofs.Composed.{goes_waits}
+use Rattle.jl_rely.specs.Steps.{IsLone}
+use Rattle.jl_rely.specs.Touches.{TouchedByOther}
+use Rattle.jl_rely.proofs.Alone.{lone_parts, waits_alone}
+use Rattle.jl_rely.proofs.Composed.{goes_waits}
 use Rattle.jl_clear.proofs.DoingLemmas.{rose_later, later_rose}
 use Rattle.jl_store.specs.Trust.{IsTrusted}
 use Rattle.jl_store.specs.Publishing.{IsPublished}

@@ -3,12 +3,12 @@ use Rattle.jl_text.specs.Counts.{Rose}
 use Rattle.jl_folder.specs.State.{now, since}
 use Rattle.jl_entry.specs.Names.{root_of}
 use Rattle.jl_entry.specs.Codes.{code_text}
-use Rattle.jl_claims.specs.Claims.{GoesOn, Anywhere}
-use Rattle.jl_claims.specs.Steps.{IsLone}
-use Rattle.jl_claims.specs.Touches.{TouchedByOther}
-use Rattle.jl_claims.proofs.Touched.{touched_as}
-use Rattle.jl_claims.proofs.Alone.{lone_parts}
-use Rattle.jl_laws.proofs.Before.{one_value, some_of}
+use Rattle.jl_rely.specs.Claims.{GoesOn, Anywhere}
+use Rattle.jl_rely.specs.Steps.{IsLone}
+use Rattle.jl_rely.specs.Touches.{TouchedByOther}
+use Rattle.jl_rely.proofs.Touched.{touched_as}
+use Rattle.jl_rely.proofs.Alone.{lone_parts}
+use Rattle.jl_protocol.proofs.Before.{one_value, some_of}
 use Rattle.jl_clear.proofs.DoingLemmas.{rose_later, later_rose}
 use Rattle.jl_store.specs.Cached.{IsAnswer, ComesBy, ComesTidy}
 use Rattle.jl_store.specs.Trust.{IsTrusted}

@@ -2,7 +2,7 @@ use Rattle.std.proofs.Common.{refl}
 use Rattle.jl_folder.specs.State.{since}
 use Rattle.jl_value.specs.Form.{tree_of}
 use Rattle.jl_value.specs.Key.{key_of}
-use Rattle.jl_claims.specs.Claims.{Anywhere}
+use Rattle.jl_rely.specs.Claims.{Anywhere}
 use Rattle.jl_store.specs.Keeping.{PutsEntry, IsKeeping, UsesEntry, HasPutAll, entry_in, texts}
 use Rattle.jl_store.specs.Next.{asked}
 use Rattle.jl_store.specs.Parts.{HasFunction, keep_warns}

@@ -2,8 +2,8 @@ use Rattle.std.proofs.Common.{ℕ, List, subst}
 use Rattle.jl_folder.specs.State.{History, State, since}
 use Rattle.jl_entry.specs.Moments.{access_text}
 use Rattle.jl_entry.specs.declared.names.EntryFile.TheVariants.{Access}
-use Rattle.jl_claims.specs.Claims.{Anywhere}
-use Rattle.jl_laws.specs.Whole.{Answers}
+use Rattle.jl_rely.specs.Claims.{Anywhere}
+use Rattle.jl_protocol.specs.Whole.{Answers}
 use Rattle.jl_store.specs.Kinds.{IsFor, PutsThis, UsesNames}
 use Rattle.jl_store.specs.Keeping.{Entry, KeepsFile, HasPut, entry_in, file_of, last_of, temp_of, IsReadyToTouch}
 use Rattle.jl_store.specs.declared.answer.Keep.{Keep}

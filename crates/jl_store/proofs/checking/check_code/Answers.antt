@@ -5,10 +5,10 @@ use Rattle.jl_folder.specs.Calls.{Waits}
 use Rattle.jl_entry.specs.Codes.{code_text}
 use Rattle.jl_entry.specs.Names.{code_of, IsTemp, root_of}
 use Rattle.jl_entry.proofs.NameFacts.{final_not_temp}
-use Rattle.jl_claims.specs.Claims.{Called, Anywhere}
-use Rattle.jl_claims.proofs.Composed.{not_called, goes_waits}
-use Rattle.jl_laws.specs.Proper.{IsProper}
-use Rattle.jl_laws.specs.Tidy.{IsTidy}
+use Rattle.jl_rely.specs.Claims.{Called, Anywhere}
+use Rattle.jl_rely.proofs.Composed.{not_called, goes_waits}
+use Rattle.jl_protocol.specs.Proper.{IsProper}
+use Rattle.jl_protocol.specs.Tidy.{IsTidy}
 use Rattle.jl_clear.proofs.DoingLemmas.{rose_later, later_rose}
 use Rattle.jl_store.specs.Kinds.{PutsThis}
 use Rattle.jl_store.specs.declared.checks.CodeCheck.{CodeCheck}
@@ -17,11 +17,11 @@ use Rattle.jl_store.proofs.StorePaths.{code_whole}
 use Rattle.jl_store.proofs.CheckLemmas.{check_called, check_checks, lawful_code}
 use Rattle.jl_store.specs.Publishing.{EndsIn}
 use Rattle.jl_folder.specs.declared.moves.Move.TheVariants.{Rename}
-use Rattle.jl_laws.specs.Whole.{IsWhole}
-use Rattle.jl_claims.specs.Touches.{TouchedByOther}
+use Rattle.jl_protocol.specs.Whole.{IsWhole}
+use Rattle.jl_rely.specs.Touches.{TouchedByOther}
 use Rattle.jl_store.proofs.SkipCauses.{skips_held}
-use Rattle.jl_claims.specs.Steps.{IsLone}
-use Rattle.jl_claims.proofs.Alone.{lone_parts, waits_alone}
+use Rattle.jl_rely.specs.Steps.{IsLone}
+use Rattle.jl_rely.proofs.Alone.{lone_parts, waits_alone}
 use Rattle.jl_store.specs.Alone.{LeavesCode}
 use Rattle.jl_store.proofs.CodeAlone.{lone_owed, check_alone}
 use Rattle.jl_store.proofs.LoneMoves.{lone_untouched}

@@ -1,10 +1,10 @@
 use Rattle.std.proofs.Common.{inl, ℕ, List, sym, subst}
 use Rattle.jl_folder.specs.State.{now, since}
-use Rattle.jl_claims.specs.Steps.{IsLone}
-use Rattle.jl_claims.proofs.Alone.{lone_parts}
+use Rattle.jl_rely.specs.Steps.{IsLone}
+use Rattle.jl_rely.proofs.Alone.{lone_parts}
 use Rattle.jl_entry.specs.Names.{code_of, IsTemp}
-use Rattle.jl_claims.specs.Touches.{TouchedByOther}
-use Rattle.jl_claims.proofs.Touched.{touched_as}
+use Rattle.jl_rely.specs.Touches.{TouchedByOther}
+use Rattle.jl_rely.proofs.Touched.{touched_as}
 use Rattle.jl_clear.proofs.DoingLemmas.{goes_does}
 use Rattle.jl_store.specs.Kinds.{UsesNames}
 use Rattle.jl_store.specs.Storing.{FoldersOr}

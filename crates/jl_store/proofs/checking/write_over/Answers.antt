@@ -1,13 +1,13 @@
 use Rattle.std.proofs.Common.{◌≡◌, ℕ, List, sym, subst}
 use Rattle.jl_folder.specs.State.{now, since}
-use Rattle.jl_claims.specs.Steps.{IsLone}
-use Rattle.jl_claims.proofs.Alone.{lone_parts}
+use Rattle.jl_rely.specs.Steps.{IsLone}
+use Rattle.jl_rely.proofs.Alone.{lone_parts}
 use Rattle.jl_clear.specs.declared.removing.Clear.TheVariants.{Cleared, Fault}
 use Rattle.jl_clear.specs.Taking.{IsFunctionFolder}
 use Rattle.jl_clear.proofs.DoingLemmas.{goes_does}
 use Rattle.jl_store.specs.Checking.{IsDone}
 use Rattle.jl_entry.specs.Names.{code_of, IsTemp}
-use Rattle.jl_claims.specs.Touches.{TouchedByOther}
+use Rattle.jl_rely.specs.Touches.{TouchedByOther}
 use Rattle.jl_store.specs.Kinds.{UsesNames}
 use Rattle.jl_store.proofs.Cleared.{cleared_does, cleared_alone}
 use Rattle.jl_store.proofs.SkipCauses.{skips_then, cleared_there}

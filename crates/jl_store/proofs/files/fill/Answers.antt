@@ -1,9 +1,9 @@
 use Rattle.std.proofs.Common.{◌++◌, subst}
 use Rattle.jl_folder.specs.Calls.{Call, NoMove}
-use Rattle.jl_claims.proofs.Since.{goes_then}
-use Rattle.jl_claims.proofs.Alone.{lone_parts}
-use Rattle.jl_claims.proofs.Composed.{goes_call}
-use Rattle.jl_laws.specs.Owned.{IsOwnFile}
+use Rattle.jl_rely.proofs.Since.{goes_then}
+use Rattle.jl_rely.proofs.Alone.{lone_parts}
+use Rattle.jl_rely.proofs.Composed.{goes_call}
+use Rattle.jl_protocol.specs.Owned.{IsOwnFile}
 use Rattle.jl_store.proofs.Ending.{closed_called, closed_alone}
 use Rattle.jl_store.proofs.files.fill.Goals as goal
 

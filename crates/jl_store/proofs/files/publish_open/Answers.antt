@@ -3,14 +3,14 @@ use Rattle.jl_folder.specs.declared.moves.Place.TheVariants.{File}
 use Rattle.jl_folder.specs.declared.moves.Move.TheVariants.{Rename}
 use Rattle.jl_folder.specs.State.{place_at, is_folder, has_parent, now, since}
 use Rattle.jl_entry.specs.Names.{IsTemp}
-use Rattle.jl_claims.specs.Steps.{IsLone}
-use Rattle.jl_claims.specs.Claims.{Called, Anywhere}
-use Rattle.jl_claims.specs.Touches.{TouchedByOther}
-use Rattle.jl_claims.proofs.Since.{goes_then}
-use Rattle.jl_claims.proofs.Alone.{lone_parts}
-use Rattle.jl_claims.proofs.Composed.{then_called}
-use Rattle.jl_laws.specs.Proper.{IsProper}
-use Rattle.jl_laws.specs.Owned.{IsOwnFile}
+use Rattle.jl_rely.specs.Steps.{IsLone}
+use Rattle.jl_rely.specs.Claims.{Called, Anywhere}
+use Rattle.jl_rely.specs.Touches.{TouchedByOther}
+use Rattle.jl_rely.proofs.Since.{goes_then}
+use Rattle.jl_rely.proofs.Alone.{lone_parts}
+use Rattle.jl_rely.proofs.Composed.{then_called}
+use Rattle.jl_protocol.specs.Proper.{IsProper}
+use Rattle.jl_protocol.specs.Owned.{IsOwnFile}
 use Rattle.jl_store.specs.Kinds.{IsAppend, IsOnName, IsFor, PutsThis, UsesNames}
 use Rattle.jl_store.specs.Publishing.{CallsOn, EndsIn, IsDraft, IsPublished}
 use Rattle.jl_store.proofs.KindFacts.{as_publishing, append_on_name}

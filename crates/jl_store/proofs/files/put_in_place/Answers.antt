@@ -1,9 +1,9 @@
 use Rattle.std.proofs.Common.{subst}
-use Rattle.jl_claims.specs.Claims.{Anywhere}
-use Rattle.jl_claims.proofs.Since.{goes_then}
-use Rattle.jl_claims.proofs.Composed.{goes_call, then_called}
-use Rattle.jl_laws.specs.Proper.{IsProper}
-use Rattle.jl_laws.specs.Owned.{IsOwnFile}
+use Rattle.jl_rely.specs.Claims.{Anywhere}
+use Rattle.jl_rely.proofs.Since.{goes_then}
+use Rattle.jl_rely.proofs.Composed.{goes_call, then_called}
+use Rattle.jl_protocol.specs.Proper.{IsProper}
+use Rattle.jl_protocol.specs.Owned.{IsOwnFile}
 use Rattle.jl_store.specs.Kinds.{IsOnName, IsFor, PutsThis}
 use Rattle.jl_store.specs.Publishing.{CallsOn}
 use Rattle.jl_store.proofs.KindFacts.{as_publishing}

@@ -2,10 +2,10 @@ use Rattle.std.proofs.Common.{◌≡◌, inl, inr, refl, sym, ◌∙◌, subst}
 use Rattle.jl_folder.specs.declared.moves.Move.TheVariants.{Rename}
 use Rattle.jl_folder.specs.State.{now, since}
 use Rattle.jl_entry.specs.declared.names.EntryFile.TheVariants.{Metadata, Access}
-use Rattle.jl_claims.specs.Steps.{IsLone}
-use Rattle.jl_claims.proofs.Since.{goes_then}
-use Rattle.jl_claims.proofs.Alone.{lone_parts}
-use Rattle.jl_laws.specs.Whole.{IsWhole}
+use Rattle.jl_rely.specs.Steps.{IsLone}
+use Rattle.jl_rely.proofs.Since.{goes_then}
+use Rattle.jl_rely.proofs.Alone.{lone_parts}
+use Rattle.jl_protocol.specs.Whole.{IsWhole}
 use Rattle.jl_store.specs.Publishing.{IsPublished}
 use Rattle.jl_store.specs.Keeping.{entry_in, file_of, last_of, temp_of, text_in, IsReadyFor, AreReady, IsMoments, HasPut, HasPutMoments, KeepsFile}
 use Rattle.jl_store.specs.declared.answer.Keep.TheVariants as keep

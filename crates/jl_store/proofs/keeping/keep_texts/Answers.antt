@@ -2,9 +2,9 @@ use Rattle.std.proofs.Common.{◌≡◌, true, refl, ◌∙◌, subst}
 use Rattle.jl_folder.specs.declared.moves.Move.TheVariants.{Rename}
 use Rattle.jl_folder.specs.State.{is_folder, now, since}
 use Rattle.jl_entry.specs.declared.names.EntryFile.TheVariants.{Output, Metadata, Access}
-use Rattle.jl_claims.specs.Steps.{IsLone}
-use Rattle.jl_claims.proofs.Since.{goes_then}
-use Rattle.jl_claims.proofs.Alone.{lone_parts}
+use Rattle.jl_rely.specs.Steps.{IsLone}
+use Rattle.jl_rely.proofs.Since.{goes_then}
+use Rattle.jl_rely.proofs.Alone.{lone_parts}
 use Rattle.jl_store.specs.Keeping.{entry_in, function_path, last_of, temp_of, text_in, AreReady, IsAnyFile, IsReadyToKeep, HasPutAll, HasFiles, Keeps}
 use Rattle.jl_store.specs.declared.answer.Keep.TheVariants as keep
 use Rattle.jl_store.proofs.Drafts.{history_state}

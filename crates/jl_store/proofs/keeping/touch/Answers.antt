@@ -2,7 +2,7 @@ use Rattle.std.proofs.Common.{◌≡◌, sym, ◌∙◌, subst}
 use Rattle.jl_folder.specs.State.{now}
 use Rattle.jl_entry.specs.Moments.{access_text}
 use Rattle.jl_entry.specs.declared.names.EntryFile.TheVariants.{Access}
-use Rattle.jl_laws.specs.Whole.{IsWhole}
+use Rattle.jl_protocol.specs.Whole.{IsWhole}
 use Rattle.jl_store.specs.Publishing.{IsPublished}
 use Rattle.jl_store.specs.Keeping.{entry_in, file_of, last_of, temp_of, IsReadyFor, IsReadyToTouch, KeepsFile}
 use Rattle.jl_store.proofs.KeepFacts.{file_from, nothing_filed}

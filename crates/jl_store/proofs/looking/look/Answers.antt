@@ -6,8 +6,8 @@ use Rattle.jl_value.specs.declared.key.Key.{Key}
 use Rattle.jl_folder.specs.State.{IsTrace, now, since}
 use Rattle.jl_entry.specs.declared.names.EntryFile.TheVariants.{Output}
 use Rattle.jl_entry.specs.Names.{IsFinal, entry_of, final_parts, below, root_of, is_key}
-use Rattle.jl_claims.proofs.Since.{since_went}
-use Rattle.jl_claims.proofs.Composed.{went_waits}
+use Rattle.jl_rely.proofs.Since.{since_went}
+use Rattle.jl_rely.proofs.Composed.{went_waits}
 use Rattle.jl_store.specs.Looking.{Finds, output_of, output_path}
 use Rattle.jl_store.proofs.LookLemmas.{looks_found}
 use Rattle.jl_store.proofs.LookTidy.{looks_tidy, looks_sound}

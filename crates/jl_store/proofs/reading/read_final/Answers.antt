@@ -1,7 +1,7 @@
 use Rattle.std.proofs.Common.{sym, subst}
 use Rattle.jl_folder.specs.State.{IsTrace, now, since}
-use Rattle.jl_claims.proofs.Since.{since_went}
-use Rattle.jl_claims.proofs.Composed.{went_waits}
+use Rattle.jl_rely.proofs.Since.{since_went}
+use Rattle.jl_rely.proofs.Composed.{went_waits}
 use Rattle.jl_store.proofs.FindLemmas.{finds_final}
 use Rattle.jl_store.proofs.reading.read_final.Goals as goal
 

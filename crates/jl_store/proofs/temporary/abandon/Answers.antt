@@ -1,4 +1,4 @@
-use Rattle.jl_claims.proofs.Composed.{goes_call}
+use Rattle.jl_rely.proofs.Composed.{goes_call}
 use Rattle.jl_store.proofs.Making.{take_anywhere}
 use Rattle.jl_store.proofs.temporary.abandon.Goals as goal
 

@@ -2,12 +2,12 @@ use Rattle.std.proofs.Common.{◌≡◌, inr, subst, None, true, false}
 use Rattle.jl_folder.specs.State.{now, since, is_folder, has_parent}
 use Rattle.jl_folder.specs.Calls.{CreatesFile}
 use Rattle.jl_folder.specs.declared.folder.Created.TheVariants as created
-use Rattle.jl_claims.proofs.Composed.{goes_call, retold}
-use Rattle.jl_claims.proofs.Alone.{lone_parts}
-use Rattle.jl_claims.proofs.Since.{goes_then}
-use Rattle.jl_claims.specs.Steps.{IsLone}
-use Rattle.jl_claims.specs.Touches.{TouchedByOther}
-use Rattle.jl_laws.specs.Tidy.{IsTidy}
+use Rattle.jl_rely.proofs.Composed.{goes_call, retold}
+use Rattle.jl_rely.proofs.Alone.{lone_parts}
+use Rattle.jl_rely.proofs.Since.{goes_then}
+use Rattle.jl_rely.specs.Steps.{IsLone}
+use Rattle.jl_rely.specs.Touches.{TouchedByOther}
+use Rattle.jl_protocol.specs.Tidy.{IsTidy}
 use Rattle.jl_store.specs.Kinds.{IsOnName, UsesFile}
 use Rattle.jl_store.specs.Publishing.{CallsOn, MakesFile, TempLeft, TempAlone}
 use Rattle.jl_store.specs.declared.temporary.TempFile.TheVariants as temp_file

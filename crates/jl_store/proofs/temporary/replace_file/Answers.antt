@@ -1,13 +1,13 @@
 use Rattle.std.proofs.Common.{subst}
 use Rattle.jl_folder.specs.Calls.{Call}
-use Rattle.jl_laws.specs.Tidy.{IsTidy}
+use Rattle.jl_protocol.specs.Tidy.{IsTidy}
 use Rattle.jl_store.specs.Kinds.{IsOnName}
 use Rattle.jl_store.specs.Publishing.{MakesFile, TakesAway, TempLeft}
 use Rattle.jl_store.specs.declared.temporary.Taken.TheVariants as taken
 use Rattle.jl_store.proofs.Drafts.{history_state, temp_from, take_alone, make_alone}
-use Rattle.jl_claims.proofs.Composed.{goes_call}
-use Rattle.jl_claims.proofs.Since.{goes_then}
-use Rattle.jl_claims.proofs.Alone.{lone_parts}
+use Rattle.jl_rely.proofs.Composed.{goes_call}
+use Rattle.jl_rely.proofs.Since.{goes_then}
+use Rattle.jl_rely.proofs.Alone.{lone_parts}
 use Rattle.jl_folder.specs.State.{now}
 use Rattle.jl_store.proofs.Making.{take_called, make_called, make_named, calls_then, calls_end, missed_again}
 use Rattle.jl_store.proofs.temporary.replace_file.Goals as goal

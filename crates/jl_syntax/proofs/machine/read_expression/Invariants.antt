@@ -1,5 +1,5 @@
 use Rattle.std.proofs.Common.{◌≡◌, [], length}
-use Rattle.jl_signs.specs.Signs.{signs}
+use Rattle.jl_lexer.specs.Signs.{signs}
 use Rattle.jl_syntax.specs.Machine.{run, kept}
 use Rattle.jl_syntax.specs.declared.machine.Mode.TheVariants.{Wanted}
 use Rattle.jl_syntax.proofs.machine.read_expression.Given as goal

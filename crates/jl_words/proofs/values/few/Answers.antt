@@ -1,5 +1,5 @@
 use Rattle.std.proofs.Common.{rules, ◌≡◌, ◌<◌, Some, arith}
-use Rattle.jl_limits.specs.Limits.{count_of}
+use Rattle.jl_quota.specs.Limits.{count_of}
 use Rattle.jl_words.proofs.Few.{few_are_small}
 use Rattle.jl_words.proofs.values.few.Goals as goal
 

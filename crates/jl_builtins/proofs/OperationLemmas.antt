@@ -1,0 +1,63 @@
+-- Lists joined, as trees.
+use Rattle.std.proofs.Common.{◌≡◌, ℕ, zero, suc, ◌<◌, ◌≤◌, List, [], ◌∷◌, ◌++◌, length, get_or, refl, sym, ap, ap₂, ◌∙◌, arith}
+use Rattle.std.specs.Prelude.{◌-◌, nat_lt, if◌then◌else◌, Bool, true, false, Some, None, Ok, Err, ℤ, pos, negsuc}
+use Rattle.jl_value.specs.declared.library.TaskError.TheVariants.{BadIndex}
+use Rattle.jl_value.specs.Tree.{Tree, whole, list, item, items_of}
+use Rattle.jl_value.specs.Form.{tree_of, trees_of}
+use Rattle.jl_value.specs.declared.value.Value.{Value}
+use Rattle.jl_value.specs.declared.value.Value.TheVariants.{List as Listed}
+use Rattle.jl_builtins.specs.Operations.{both_items, sum_of, place_of, items_length, item_at, number_at, at_place}
+
+pub both : (a b : List Tree) → both_items (items_of a) (items_of b) ≡ items_of (a ++ b)
+both [] b = refl
+both (t ∷ ts) b = ap (item t) (both ts b)
+
+pub list_sum : (v w : Value) (a b l : List Tree) → v ≡ Listed a → w ≡ Listed b → l ≡ a ++ b → sum_of (tree_of v) (tree_of w) ≡ Ok (list (items_of l))
+list_sum v w a b l e f g = ap₂ (λ x y. sum_of (tree_of x) (tree_of y)) e f ∙ ap (λ is. Ok (list is)) (both a b) ∙ ap (λ l. Ok (list (items_of l))) (sym g)
+
+-- the item at a place within
+pub item_is : (vs : List Value) (n : ℕ) (d : Value) → n < length vs → item_at (items_of (trees_of vs)) n ≡ Ok (tree_of (get_or vs n d))
+item_is [] n d h = absurd (omega arith)
+item_is (v ∷ vs) zero d h = refl
+item_is (v ∷ vs) (suc n) d h = item_is vs n d (omega arith)
+
+pub number_is : (zs : List ℤ) (n : ℕ) (d : ℤ) → n < length zs → number_at zs n ≡ Ok (whole (get_or zs n d))
+number_is [] n d h = absurd (omega arith)
+number_is (z ∷ zs) zero d h = refl
+number_is (z ∷ zs) (suc n) d h = number_is zs n d (omega arith)
+
+place_if : (b : Bool) (m n l : ℕ) → (b ≡ true → m < l) → (if b then Some m else None) ≡ Some n → n < l
+place_if true m n l h e = let same : m ≡ n = cc in let low = h refl in omega (arith, same)
+place_if false m n l h e = absurd (cc)
+
+-- a place that is there is within
+pub place_low : (l : ℕ) (z : ℤ) (n : ℕ) → place_of l z ≡ Some n → n < l
+place_low l (pos i) n e = place_if (nat_lt i l) i n l (λ h. grind arith) e
+place_low l (negsuc i) n e = place_if (nat_lt i l) (l - suc i) n l (λ h. let low : i < l = grind arith in omega arith) e
+
+-- the number at a place that is there
+pub number_placed : (zs : List ℤ) (z : ℤ) (n : ℕ) (x : ℤ) → place_of (length zs) z ≡ Some n → x ≡ get_or zs n (pos 0) → at_place (number_at zs) (place_of (length zs) z) ≡ Ok (whole x)
+number_placed zs z n x e same = ap (at_place (number_at zs)) e ∙ number_is zs n (pos 0) (place_low (length zs) z n e) ∙ ap (λ y. Ok (whole y)) (sym same)
+
+items_count : (vs : List Value) → items_length (items_of (trees_of vs)) ≡ length vs
+items_count [] = refl
+items_count (v ∷ vs) = ap suc (items_count vs)
+
+-- the item at a place that is there
+pub item_placed : (vs : List Value) (z : ℤ) (n : ℕ) (v w : Value) → place_of (length vs) z ≡ Some n → v ≡ get_or vs n v → w ≡ v → at_place (item_at (items_of (trees_of vs))) (place_of (items_length (items_of (trees_of vs))) z) ≡ Ok (tree_of w)
+item_placed vs z n v w e same copied =
+    ap (λ k. at_place (item_at (items_of (trees_of vs))) (place_of k z)) (items_count vs)
+    ∙ ap (at_place (item_at (items_of (trees_of vs)))) e
+    ∙ item_is vs n v (place_low (length vs) z n e)
+    ∙ ap (λ (u : Value). Ok (tree_of u)) (sym same ∙ sym copied)
+
+pub item_missing : (vs : List Value) (z : ℤ) → place_of (length vs) z ≡ None → at_place (item_at (items_of (trees_of vs))) (place_of (items_length (items_of (trees_of vs))) z) ≡ Err BadIndex
+item_missing vs z e = ap (λ k. at_place (item_at (items_of (trees_of vs))) (place_of k z)) (items_count vs) ∙ ap (at_place (item_at (items_of (trees_of vs)))) e
+
+number_none : (zs : List ℤ) (n : ℕ) → length zs ≤ n → number_at zs n ≡ Err BadIndex
+number_none [] n h = refl
+number_none (z ∷ zs) zero h = absurd (omega arith)
+number_none (z ∷ zs) (suc n) h = number_none zs n (omega arith)
+
+pub number_missing : (zs : List ℤ) (z : ℤ) (n : ℕ) → place_of (length zs) z ≡ Some n → length zs ≤ n → at_place (number_at zs) (place_of (length zs) z) ≡ Err BadIndex
+number_missing zs z n e h = ap (at_place (number_at zs)) e ∙ number_none zs n h

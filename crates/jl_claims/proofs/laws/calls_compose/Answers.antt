@@ -1,5 +1,0 @@
-use Rattle.jl_claims.proofs.Composed.{then_called}
-use Rattle.jl_claims.proofs.laws.calls_compose.Goals as goal
-
-pub returns : goal.returns
-returns g c token old mid new first second = then_called _ _ token _ _ _ _ old mid new first second

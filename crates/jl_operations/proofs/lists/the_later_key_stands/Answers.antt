@@ -1,5 +1,0 @@
-use Rattle.jl_operations.proofs.KeyLemmas.{later_stands, others_stay}
-use Rattle.jl_operations.proofs.lists.the_later_key_stands.Goals as goal
-
-pub returns : goal.returns
-returns c = record { stands = later_stands; others = others_stay }
