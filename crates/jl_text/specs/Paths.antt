@@ -4,6 +4,7 @@ use Rattle.std.specs.Prelude.{ℕ, ◌-◌, ◌+◌, List, [], ◌∷◌, ◌++�
 use Rattle.std.specs.List.{list_all, list_any, slice_split, slice_get}
 use Rattle.std.specs.Str.{bytes_eq}
 use Rattle.std.specs.Cmp.Lexicographic.{pointwise}
+use Rattle.jl_text.specs.declared.limits.TheConstants.{MOST_PATH_BYTES}
 
 -- the parts, each a list of bytes
 abbrev pub PathView : Type 0
@@ -58,7 +59,7 @@ path_of text = cond (begins_at_top text) ([] ∷ []) [] ++ filter is_kept (piece
 
 -- a text that is no path: empty, longer than 4,096 bytes, with a zero byte or a part `..`
 abbrev pub is_bad : List ℕ → Bool
-is_bad text = nat_eq (length text) 0 || (nat_lt 4096 (length text) || (list_any (λ b. nat_eq b 0) text || list_any (λ p. bytes_eq p (46 ∷ 46 ∷ [])) (pieces text)))
+is_bad text = nat_eq (length text) 0 || (nat_lt MOST_PATH_BYTES (length text) || (list_any (λ b. nat_eq b 0) text || list_any (λ p. bytes_eq p (46 ∷ 46 ∷ [])) (pieces text)))
 
 -- each part behind a slash
 abbrev pub behind_slashes : PathView → List ℕ

@@ -1,6 +1,7 @@
 -- The forms of small texts.
 use Rattle.std.specs.Prelude.{ℕ, List, [], ◌∷◌, Bool, false, ◌&&◌, ◌||◌, nat_eq, nat_lt, nat_le, length, not}
 use Rattle.std.specs.List.{list_all}
+use Rattle.jl_text.specs.declared.limits.TheConstants.{MOST_NAME_BYTES, MOST_TOKEN_BYTES}
 
 -- a lower-case letter or a digit
 abbrev pub is_token_byte : ℕ → Bool
@@ -8,7 +9,7 @@ is_token_byte b = (nat_le 97 b && nat_le b 122) || (nat_le 48 b && nat_le b 57)
 
 -- 1 to 48 of these
 abbrev pub is_token : List ℕ → Bool
-is_token t = nat_lt 0 (length t) && nat_le (length t) 48 && list_all is_token_byte t
+is_token t = nat_lt 0 (length t) && nat_le (length t) MOST_TOKEN_BYTES && list_all is_token_byte t
 
 -- a digit
 abbrev pub is_digit_byte : ℕ → Bool
@@ -29,4 +30,4 @@ begins_with_digit (b ∷ bs) = is_digit_byte b
 
 -- 1 to 64 letters, digits and `_`, of which the first is no digit
 abbrev pub is_name : List ℕ → Bool
-is_name t = nat_lt 0 (length t) && (nat_le (length t) 64 && (not (begins_with_digit t) && list_all is_name_byte t))
+is_name t = nat_lt 0 (length t) && (nat_le (length t) MOST_NAME_BYTES && (not (begins_with_digit t) && list_all is_name_byte t))

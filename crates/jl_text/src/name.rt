@@ -2,24 +2,14 @@
 ghost use Rattle.std.specs.Prelude.{◌≡◌, true, false};
 ghost use Rattle.std.specs.List.{list_all};
 ghost use Rattle.jl_text.specs.Paths.{is_part};
-ghost use Rattle.jl_text.specs.Texts.{is_name, is_name_byte, is_digit_byte, is_letter_byte, begins_with_digit};
+ghost use Rattle.jl_text.specs.Texts.{is_name, is_name_byte, begins_with_digit};
 
-fn is_digit_code(b: u8) -> bool
-    ensures { result ≡ is_digit_byte b }
-{
-    b >= b'0' && b <= b'9'
-}
-
-fn is_letter_code(b: u8) -> bool
-    ensures { result ≡ is_letter_byte b }
-{
-    (b >= b'A' && b <= b'Z') || (b >= b'a' && b <= b'z')
-}
+use crate::limits::MOST_NAME_BYTES;
 
 fn is_name_code(b: u8) -> bool
     ensures { result ≡ is_name_byte b }
 {
-    is_letter_code(b) || is_digit_code(b) || b == b'_'
+    b.is_ascii_alphanumeric() || b == b'_'
 }
 
 fn all_name_codes(bytes: &[u8]) -> bool
@@ -38,7 +28,7 @@ pub fn is_name(text: &str) -> bool
     match bytes {
         [] => false,
         [first, ..] => {
-            if is_digit_code(*first) || bytes.len() > 64 {
+            if first.is_ascii_digit() || bytes.len() > MOST_NAME_BYTES {
                 return false;
             }
             all_name_codes(bytes)

@@ -4,6 +4,7 @@ ghost use Rattle.std.specs.Str.{bytes_eq};
 ghost use Rattle.std.specs.List.{list_any, slice_get};
 ghost use Rattle.jl_text.specs.Paths.{path_eq, is_fixed, parent, path_of, is_bad, is_kept, is_part, IsPath, last_part, pieces, begins_at_top, behind_slashes, text_of};
 
+use crate::limits::MOST_PATH_BYTES;
 use crate::text::Text;
 use std::alloc::{AllocError, AllocFailed, Global};
 use std::marker::Model;
@@ -93,7 +94,8 @@ fn has_dots(text: &str) -> bool
 }
 
 fn kept_parts(alloc: Global, top: bool, parts: &[&str]) -> Result<Vec<Text>, AllocError>
-    ensures { IfOk result (λ v. v.items ≡ cond top ([] ∷ []) [] ++ filter is_kept (map (λ x. x.now) parts.now)) }
+    ensures { IfOk result (λ v. v.items
+        ≡ cond top ([] ∷ []) [] ++ filter is_kept (map (λ x. x.now) parts.now)) }
 {
     let mut kept = Vec::new(alloc);
     if top {
@@ -118,13 +120,14 @@ fn begins_with_slash(text: &str) -> bool
 
 // The tests that look at no piece.
 fn is_bad_shape(text: &str) -> bool
-    ensures { result ≡ (nat_eq (length text.now) 0 || (nat_lt 4096 (length text.now) || list_any (λ b. nat_eq b 0) text.now)) }
+    ensures { result ≡ (nat_eq (length text.now) 0
+        || (nat_lt MOST_PATH_BYTES (length text.now) || list_any (λ b. nat_eq b 0) text.now)) }
 {
     let bytes = text.as_bytes();
     if bytes.is_empty() {
         return true;
     }
-    if bytes.len() > 4096 {
+    if bytes.len() > MOST_PATH_BYTES {
         return true;
     }
     bytes.contains(&0)
@@ -214,7 +217,7 @@ impl Path {
     pub fn text(&self, alloc: Global) -> Result<Text, AllocError>
         ensures text { IfOk result (λ t. t ≡ text_of self.now) }
         ensures spells { IfOk result (λ t. path_of t ≡ self.now) }
-        ensures good { IfOk result (λ t. length t ≤ 4096 → is_bad t ≡ false) }
+        ensures good { IfOk result (λ t. length t ≤ MOST_PATH_BYTES → is_bad t ≡ false) }
     {
         Ok(Text::new(spelled(alloc, self.parts.as_slice())?))
     }

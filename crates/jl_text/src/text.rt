@@ -4,6 +4,7 @@ ghost use Rattle.std.specs.Str.{bytes_eq};
 ghost use Rattle.std.specs.List.{list_all};
 ghost use Rattle.jl_text.specs.Texts.{is_token, is_token_byte};
 
+use crate::limits::MOST_TOKEN_BYTES;
 use std::alloc::{AllocError, AllocFailed, Global};
 use std::marker::Model;
 use thiserror::Error;
@@ -188,7 +189,7 @@ impl PartialEq for Token {
 fn is_token_code(b: u8) -> bool
     ensures { result ≡ is_token_byte b }
 {
-    (b >= b'a' && b <= b'z') || (b >= b'0' && b <= b'9')
+    b.is_ascii_lowercase() || b.is_ascii_digit()
 }
 
 fn all_token_codes(bytes: &[u8]) -> bool
@@ -197,14 +198,14 @@ fn all_token_codes(bytes: &[u8]) -> bool
     bytes.iter().all(|b| is_token_code(*b))
 }
 
-fn is_token_text(text: &str) -> bool
-    ensures { result ≡ is_token text.now }
+/// Whether a token is spelled so: 1 to 48 of the characters `a-z0-9`.
+pub fn is_token(bytes: &[u8]) -> bool
+    ensures { result ≡ is_token bytes.now }
 {
-    let bytes = text.as_bytes();
     if bytes.is_empty() {
         return false;
     }
-    if bytes.len() > 48 {
+    if bytes.len() > MOST_TOKEN_BYTES {
         return false;
     }
     all_token_codes(bytes)
@@ -213,10 +214,11 @@ fn is_token_text(text: &str) -> bool
 impl Token {
     /// `BadToken` exactly where the text has not the form.
     pub fn read(alloc: Global, text: &str) -> Result<Token, TokenFault>
-        ensures read { MatchResult result (λ t. (t ≡ text.now) × IsTrue (is_token text.now)) (λ e. e ≡ TokenFault.BadToken → is_token text.now ≡ false) }
+        ensures read { MatchResult result (λ t. (t ≡ text.now) × IsTrue (is_token text.now))
+            (λ e. e ≡ TokenFault.BadToken → is_token text.now ≡ false) }
         ensures bad { is_token text.now ≡ false → result ≡ Err TokenFault.BadToken }
     {
-        if !is_token_text(text) {
+        if !is_token(text.as_bytes()) {
             return Err(TokenFault::BadToken);
         }
         let text = String::from_str(alloc, text)?;

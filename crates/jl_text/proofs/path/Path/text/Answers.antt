@@ -1,5 +1,6 @@
 use Rattle.std.proofs.Common.{◌≡◌, sym, subst, length, ◌≤◌, false}
 use Rattle.jl_text.specs.Paths.{path_of, is_bad, text_of, IsPath}
+use Rattle.jl_text.specs.declared.limits.TheConstants.{MOST_PATH_BYTES}
 use Rattle.jl_text.proofs.Spelled.{path_of-text_of, is_bad-text_of}
 use Rattle.jl_text.proofs.path.Path.text.Goals as goal
 
@@ -13,4 +14,4 @@ pub returns-clause-good : goal.returns-clause-good
 returns-clause-good c =
     let e : c.new.result ≡ text_of c.args.self.now = cc c.in_ok-spelled.ensures in
     let h = subst IsPath c.self.view_is c.self.invariant in
-    subst (λ t. length t ≤ 4096 → is_bad t ≡ false) (sym e) (is_bad-text_of c.args.self.now h)
+    subst (λ t. length t ≤ MOST_PATH_BYTES → is_bad t ≡ false) (sym e) (is_bad-text_of c.args.self.now h)
