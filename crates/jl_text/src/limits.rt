@@ -34,7 +34,7 @@ pub const MOST_INPUT_BYTES: u64 = 1_099_511_627_776;
 /// How many bytes are read or written at once.
 pub const PIECE_BYTES: usize = 65_536;
 
-/// The last moment that a clock tells, in nanoseconds.
+/// The last moment that a clock tells, in microseconds since 1970.
 pub const LAST_MOMENT: u64 = 4_611_686_018_427_387_904;
 
 /// The most processors that a host is taken to have.
