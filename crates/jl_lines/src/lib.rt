@@ -5,6 +5,3 @@ mod block;
 mod reader;
 
 pub use reader::{LineReader, NextLine};
-
-#[cfg(test)]
-mod tests;

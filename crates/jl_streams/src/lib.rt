@@ -15,6 +15,3 @@ pub use mem_sink::MemSink;
 pub use mem_source::MemSource;
 pub use sink::{Put, Sink, WroteAll, write_all};
 pub use source::{Got, Source};
-
-#[cfg(test)]
-mod tests;
