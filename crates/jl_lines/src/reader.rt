@@ -92,21 +92,6 @@ impl LineReader {
         self.lines + 1
     }
 
-    // A reader that took so many bytes before, all in lines that it passed.
-    #[cfg(test)]
-    pub fn after(alloc: Global, limit: u64, taken: u64) -> LineReader
-        requires { taken ≤ 2 ^ 40 }
-    {
-        LineReader {
-            limit,
-            taken,
-            lines: 0,
-            long: false,
-            front: Vec::new(alloc),
-            block: Block::new(alloc),
-        }
-    }
-
     // Whether the line at the front is too long with so many bytes more.
     fn is_over(&self, count: usize) -> bool
         requires { count ≤ length self.now.rest }
