@@ -17,8 +17,3 @@ pub use following::{Tracked, track};
 pub use law::{folders_stay_for_a_cause, removals_fail_by_counted_faults};
 pub use line::{BadLine, Kind, Line, read_line};
 pub use table::Step;
-
-#[cfg(test)]
-mod order_tests;
-#[cfg(test)]
-mod tests;
