@@ -1,45 +1,45 @@
 -- The canonical text of a value, and the JSON data that it is the text of.
-use Rattle.std.specs.Prelude.{ℕ, ℤ, Bool, true, false, if◌then◌else◌, List, [], ◌∷◌, ◌++◌}
+use Rattle.std.specs.Prelude.{ℕ, ℤ, Bool, true, false, if◌then◌else◌, List, [], ◌∷◌, ◌++◌, codes}
 use Rattle.std.specs.Fmt.{signed_decimal}
 use Rattle.json.specs.Print.{quoted}
 use Rattle.serde_json.specs.Data as data'
 use Rattle.serde_json.specs.Find.{of_integer}
 use Rattle.jl_value.specs.Tree.{Tree, null, truth, whole, text, list, table, numbers, Items, no_items, item, Members, no_members, member}
 
--- `$i64`
+-- the one key of an array
 abbrev pub array_key : List ℕ
-array_key = 36 ∷ 105 ∷ 54 ∷ 52 ∷ []
+array_key = codes "$i64"
 
 -- a comma, where something stands before
 abbrev pub comma_if : Bool → List ℕ
-comma_if later = if later then 44 ∷ [] else []
+comma_if later = if later then codes "," else []
 
 -- the numbers of an array from here on, and the closing bracket
 abbrev pub numbers_text : Bool → List ℤ → List ℕ
-numbers_text later [] = 93 ∷ []
+numbers_text later [] = codes "]"
 numbers_text later (z ∷ zs) = comma_if later ++ (signed_decimal z ++ numbers_text true zs)
 
 abbrev mutual
   -- the canonical text: `null`, `true`, `false`, decimals, quoted texts, and brackets with no space in them
   pub text_of : Tree → List ℕ
-  text_of null = 110 ∷ 117 ∷ 108 ∷ 108 ∷ []
-  text_of (truth true) = 116 ∷ 114 ∷ 117 ∷ 101 ∷ []
-  text_of (truth false) = 102 ∷ 97 ∷ 108 ∷ 115 ∷ 101 ∷ []
+  text_of null = codes "null"
+  text_of (truth true) = codes "true"
+  text_of (truth false) = codes "false"
   text_of (whole z) = signed_decimal z
   text_of (text s) = quoted s
-  text_of (list ts) = 91 ∷ items_text false ts
-  text_of (table ms) = 123 ∷ members_text false ms
-  text_of (numbers zs) = 123 ∷ (quoted array_key ++ 58 ∷ (91 ∷ (numbers_text false zs ++ 125 ∷ [])))
+  text_of (list ts) = codes "[" ++ items_text false ts
+  text_of (table ms) = codes "{" ++ members_text false ms
+  text_of (numbers zs) = codes "{" ++ (quoted array_key ++ (codes ":[" ++ (numbers_text false zs ++ codes "}")))
 
   -- the members of a list from here on, and the closing bracket
   pub items_text : Bool → Items → List ℕ
-  items_text later no_items = 93 ∷ []
+  items_text later no_items = codes "]"
   items_text later (item t ts) = comma_if later ++ (text_of t ++ items_text true ts)
 
   -- the members of a table from here on, each key before its value, and the closing brace
   pub members_text : Bool → Members → List ℕ
-  members_text later no_members = 125 ∷ []
-  members_text later (member k t ms) = comma_if later ++ (quoted k ++ 58 ∷ (text_of t ++ members_text true ms))
+  members_text later no_members = codes "}"
+  members_text later (member k t ms) = comma_if later ++ (quoted k ++ (codes ":" ++ (text_of t ++ members_text true ms)))
 
 -- ---- as JSON data
 

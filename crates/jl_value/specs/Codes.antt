@@ -1,4 +1,5 @@
 -- How the logic stores a tree.
+-- Machinery: nothing here need be believed.
 use Rattle.std.proofs.Common.{◌≡◌, ◌≢◌, ℕ, List, refl, ap, arith}
 use Rattle.std.specs.Coded.{Coded, coded×, coded_ℕ, coded_ℤ, coded_bool, coded_list}
 use base.Stored.{Gv, gnil, gnum, gcons}

@@ -1,4 +1,5 @@
 -- Each child of a list or a table is lower than it.
+-- Machinery: nothing here need be believed.
 use Rattle.std.proofs.Common.{ℕ, ◌≤◌, List, [], ◌∷◌, arith}
 use denote.Param.Weighed.{most}
 use Rattle.jl_value.specs.Tree.{height, items_of, items_height, members_of, members_height}

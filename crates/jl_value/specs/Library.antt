@@ -1,5 +1,6 @@
 -- What a library answers, and the limits that each library keeps.
 use Rattle.std.specs.Prelude.{◌≡◌, ◌≤◌, ℕ, ◌+◌, min, List, length, Option, Some, None, ⊤}
+use Rattle.jl_text.specs.declared.limits.TheConstants.{MOST_TEXT_BYTES, MOST_VALUE_DEPTH}
 use Rattle.jl_value.specs.Tree.{Tree, nesting}
 use Rattle.jl_value.specs.Canonical.{text_of}
 use Rattle.jl_value.specs.Form.{tree_of}
@@ -43,7 +44,7 @@ HasRead Read fault bytes old new = (fault ≡ None) × (new ≡ bytes)
 HasRead (Fault f) fault bytes old new = (fault ≡ Some f) × (new ≡ old)
 HasRead NoMemoryToRead fault bytes old new = new ≡ old
 
--- a value of a library nests at most 64 deep, and its text has at most 2^20 bytes
+-- a value of a library keeps the limits of depth and of its text
 abbrev pub IsWithin : Answer → Type 0
-IsWithin (value t) = IsProper t × (nesting t ≤ 64) × (length (text_of t) ≤ 1048576)
+IsWithin (value t) = IsProper t × (nesting t ≤ MOST_VALUE_DEPTH) × (length (text_of t) ≤ MOST_TEXT_BYTES)
 IsWithin (error e) = ⊤

@@ -1,4 +1,5 @@
 -- Whether two trees are the same, as a test.
+-- Machinery: nothing here need be believed.
 use Rattle.std.specs.Prelude.{ℤ, Bool, true, false, ◌&&◌, List, [], ◌∷◌, bytes_eq}
 use Rattle.std.specs.Bool.{beq}
 use Rattle.std.specs.Ordering.{int_eq}

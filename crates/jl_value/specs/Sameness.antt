@@ -1,4 +1,5 @@
 -- The test tells whether two trees are equal.
+-- Machinery: nothing here need be believed.
 use Rattle.std.proofs.Common.{◌≡◌, ℤ, Bool, true, false, List, [], ◌∷◌, refl, sym, ap, ap₂, ◌∙◌}
 use Rattle.std.specs.Cmp.{IsPartialEquivalence}
 use Rattle.std.specs.Bool.{Decides, beq}

@@ -1,4 +1,5 @@
 -- What the laws of `TinyLibrary` rest on.
+-- Machinery: nothing here need be believed.
 use Rattle.std.proofs.Common.{◌≡◌, ◌<◌, ◌≤◌, ◌+◌, ◌^◌, ◌==◌, ℕ, suc, ℤ, pos, negsuc, Bool, true, false, cond, List, [], ◌∷◌, length, Option, Some, None, IsTrue, refl, sym, subst, arith, true≢false}
 use Rattle.std.specs.Prelude.{if◌then◌else◌, option_map, ◌+ℤ◌}
 use Rattle.std.specs.Fmt.{signed_decimal}

@@ -1,4 +1,5 @@
 -- The tokens of the canonical text, for the walk that writes it.
+-- Machinery: nothing here need be believed.
 use Rattle.std.specs.Prelude.{ℕ, ℤ, List}
 use Rattle.json.specs.Token.{Token}
 use Rattle.json.specs.Tree.{json_tokens, items_tokens, members_tokens}

@@ -1,3 +1,4 @@
+// Equality of values, by their form and parts.
 ghost use Rattle.std.specs.Prelude.{◌≡◌, ◌↔◌, IsTrue};
 ghost use Rattle.jl_value.specs.Tree.{items_of, members_of};
 ghost use Rattle.jl_value.specs.Form.{tree_of, trees_of, entries_of};

@@ -1,4 +1,5 @@
-ghost use Rattle.std.specs.Prelude.{◌≡◌, IfOk, OnOk, MatchResult};
+// Arguments, and the digest that names them.
+ghost use Rattle.std.specs.Prelude.{◌≡◌, IfOk, OnOk, MatchResult, string_bytes};
 ghost use Rattle.hex.specs.Hex.{encode_lower};
 ghost use Rattle.jl_value.specs.Tree.{members_of};
 ghost use Rattle.jl_value.specs.Form.{tree_of};
@@ -89,10 +90,17 @@ pub fn digest(alloc: Global, args: &Args) -> Result<Key, AllocError>
 }
 
 impl Key {
-    /// The digits of the key, in lower case.
+    /// The hexadecimal digits of the key, in lower case.
     pub fn hex(&self, out: &mut [u8; 32])
         ensures { out.new ≡ encode_lower self.now.0 }
     {
         drop(hex::encode_to_slice(self.0.as_slice(), out));
+    }
+
+    /// The same digits as a text of its own.
+    pub fn to_hex(&self, alloc: Global) -> Result<String, AllocError>
+        ensures { IfOk result (λ t. string_bytes t ≡ encode_lower self.now.0) }
+    {
+        hex::encode(alloc, self.0.as_slice())
     }
 }

@@ -6,7 +6,7 @@ mod fault;
 mod key;
 mod library;
 mod reading;
-mod tiny;
+mod testing;
 mod value;
 mod writing;
 
@@ -18,9 +18,6 @@ pub use library::{
     Called, CodeRef, Library, ModuleFault, ModuleFaultKind, Outcome, ReadModule, TaskError,
 };
 pub use reading::read_value;
-pub use tiny::TinyLibrary;
+pub use testing::TinyLibrary;
 pub use value::{List, Numbers, Table, Value};
 pub use writing::{canonical, canonical_table};
-
-#[cfg(test)]
-mod tests;

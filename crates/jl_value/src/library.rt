@@ -1,3 +1,4 @@
+// What a library of functions promises, and what comes of calls.
 ghost use Rattle.std.specs.Prelude.{◌≡◌, ◌≤◌, ℕ, List, length, Option, Some, None, IsSome, IfOk, MatchOption, OnErr, IsUtf8, IsTrue, ◌+◌, ⊤};
 ghost use Rattle.jl_text.specs.Texts.{is_name};
 ghost use Rattle.jl_value.specs.Tree.{Tree};

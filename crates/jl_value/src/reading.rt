@@ -1,3 +1,4 @@
+// Values read from JSON text.
 ghost use Rattle.std.specs.Prelude.{◌≡◌, ◌≢◌, ◌⊎◌, ◌≤◌, ◌∷◌, [], Some, None, true, false, IfOk, OnOk, IfErr, MatchResult, option_map, IfSome};
 ghost use Rattle.jl_value.specs.declared.fault.ValueFault.TheVariants.{Memory};
 ghost use Rattle.serde_json.specs.View.{view, items_view, members_view};

@@ -1,3 +1,4 @@
+// Values, their lists, tables and arrays.
 ghost use Rattle.std.specs.Prelude.{◌≡◌, ◌↔◌, IsTrue, IfOk, MatchResult, map};
 ghost use Rattle.jl_value.specs.Form.{trees_of, entries_of, keys_in};
 ghost use Rattle.jl_value.specs.Proper.{AreKeys};

@@ -1,3 +1,4 @@
+// The canonical text of values.
 ghost use Rattle.std.specs.Prelude.{◌≡◌, ◌≤◌, ℕ, [], ◌++◌, IfOk, OnOk};
 ghost use Rattle.jl_value.specs.Walked.{read_bytes};
 ghost use Rattle.json.specs.Print.{print};

@@ -1,3 +1,4 @@
+// A library of sums, for tests.
 ghost use Rattle.std.specs.Prelude.{◌≡◌, ◌≢◌, ◌+◌, ◌++◌, ◌∷◌, [], Some, None, true, false, IfOk, MatchOption, IsSome, ℤ, pos, ◌+ℤ◌, ◌==◌, map, length};
 ghost use Rattle.std.specs.List.{slice_split, list_all};
 ghost use Rattle.std.specs.Char.{is_ascii_digit};

@@ -1,7 +1,7 @@
 use Rattle.std.proofs.Common.{◌≡◌, ◌-◌, List, ℕ, Bor, true, false, length, suc, sym, ◌∙◌, arith}
 use Rattle.std.proofs.lemmas.Bool.{eqb-false}
 use Rattle.jl_value.proofs.TinyLemmas.{cut_last}
-use Rattle.jl_value.proofs.tiny.without_end.Goals as goal
+use Rattle.jl_value.proofs.testing.tiny.without_end.Goals as goal
 
 pub returns-then-is_empty-2 : goal.returns-then-is_empty-2
 returns-then-is_empty-2 c =

@@ -1,6 +1,6 @@
 use Rattle.std.proofs.Common.{refl, sym, ◌∙◌}
 use Rattle.jl_value.proofs.TinyLemmas.{fault_of_lines, fault_of_no_text}
-use Rattle.jl_value.proofs.tiny.TinyLibraryLibrary.read_module.Goals as goal
+use Rattle.jl_value.proofs.testing.tiny.TinyLibraryLibrary.read_module.Goals as goal
 
 pub returns-in_default-clause-read : goal.returns-in_default-clause-read
 returns-in_default-clause-read c = (fault_of_no_text c.args.bytes.now c.in_default.ensures.cases.0, refl)

@@ -1,7 +1,7 @@
 use Rattle.std.proofs.Common.{sym, ap, ◌∙◌}
 use Rattle.jl_value.specs.Tiny.{is_decimal}
 use Rattle.jl_value.proofs.TinyLemmas.{parsed}
-use Rattle.jl_value.proofs.tiny.number_of.Goals as goal
+use Rattle.jl_value.proofs.testing.tiny.number_of.Goals as goal
 
 pub returns : goal.returns
 returns c =
