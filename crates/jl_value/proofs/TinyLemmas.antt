@@ -1,7 +1,7 @@
 -- Numbers and lines of the small library.
-use Rattle.std.proofs.Common.{◌≡◌, ◌≢◌, ◌^◌, ◌==◌, ℕ, zero, suc, ℤ, pos, negsuc, Bool, true, false, List, [], ◌∷◌, length, map, take, Some, None, get_or, refl, sym, ap, ◌∙◌, subst, arith, rules, true≢false, ne_eqb, lit<}
+use Rattle.std.proofs.Common.{◌≡◌, ◌≢◌, ◌^◌, ◌==◌, ◌++◌, Bor, ℕ, zero, suc, ℤ, pos, negsuc, Bool, true, false, List, [], ◌∷◌, length, map, take, Option, Some, None, get_or, refl, sym, ap, ap₂, ◌∙◌, subst, arith, rules, true≢false, ne_eqb, lit<}
 use Rattle.std.proofs.lemmas.Bool.{eqb-true, lt-ltb, ltb-true}
-use Rattle.std.specs.Prelude.{if◌then◌else◌, Result, Ok, Err}
+use Rattle.std.specs.Prelude.{if◌then◌else◌, is_some, Result, Ok, Err}
 use Rattle.std.specs.Result.{result_ok}
 use Rattle.std.specs.Char.{is_ascii_digit}
 use Rattle.std.specs.List.{list_all}
@@ -10,11 +10,12 @@ use Rattle.std.proofs.lemmas.Str.Parse.{IsNumeralModel, IsDigitsTest, numerals_b
 use Rattle.std.proofs.lemmas.List.{nil_from_length}
 use mir.Syntax.{w64}
 use mir.Val.{SFits}
-use Rattle.jl_value.specs.Tiny.{is_positive, is_decimal, is_whole, number_of, without_empty_last, tiny_lines, tiny_fault, fault_in}
-use Rattle.jl_value.specs.declared.library.ModuleFaultKind.TheVariants.{BadLine}
+use Rattle.jl_value.specs.Tiny.{is_positive, is_decimal, is_whole, number_of, definition_of, name_is, defines, without_empty_last, code_in, line_in, kind_among, line_fault, or_later, fault_in, as_text}
+use Rattle.jl_value.specs.declared.library.ModuleFaultKind.TheVariants.{Twice}
 use Rattle.std.proofs.lemmas.Str.{is_utf8-from_IsUtf8}
-use Rattle.std.specs.Str.{IsUtf8}
-use Rattle.jl_value.proofs.Utf8.{is_utf8-not}
+use Rattle.std.specs.Str.{is_utf8}
+use Rattle.std.proofs.lemmas.List.{map-append}
+use Rattle.jl_value.specs.TinyLaws.{defined_low, low_utf8}
 
 -- `list_all` tells the texts of digits
 are_digits : IsDigitsTest (λ ds. list_all is_ascii_digit ds ≡ true)
@@ -95,12 +96,60 @@ pub cut_last : {A : Type 0} (f : A → List ℕ) (xs : List A) (i : ℕ) (d : A)
     → without_empty_last (map f xs) ≡ (if b then map f (take i xs) else map f xs)
 cut_last f xs i d b h is = last_cut f xs i d h ∙ ap (λ e. if e then map f (take i xs) else map f xs) is
 
--- ---- faults
+-- ---- lines as texts
 
--- the fault of a text is that of its lines
-pub fault_of_lines : (m t : List ℕ) (ls : List (List ℕ)) → IsUtf8 m → t ≡ m → ls ≡ tiny_lines t → tiny_fault m ≡ fault_in [] 1 ls
-fault_of_lines m t ls h same cut = rw (is_utf8-from_IsUtf8 m h) (ap (fault_in [] 1) (ap tiny_lines (sym same) ∙ sym cut))
+-- a line that is no text is no definition
+undefined : (l : List ℕ) (o : Option (List ℕ × ℤ)) → is_utf8 l ≡ false → definition_of l ≡ o → None ≡ o
+undefined l None is e = refl
+undefined l (Some d) is e = absurd (true≢false (sym (is_utf8-from_IsUtf8 l (low_utf8 l (defined_low l d e))) ∙ is))
 
--- bytes that are no text have it in line 1
-pub fault_of_no_text : (m : List ℕ) → (IsUtf8 m → ⊥) → tiny_fault m ≡ Some (record { line = 1; kind = BadLine })
-fault_of_no_text m h = rw (is_utf8-not m h)
+as_text-defined : (l : List ℕ) → definition_of (as_text l) ≡ definition_of l
+as_text-defined l = by (is_utf8 l) refl
+  where
+    by : (b : Bool) → is_utf8 l ≡ b → definition_of (if b then l else []) ≡ definition_of l
+    by true is = refl
+    by false is = undefined l (definition_of l) is refl
+
+as_text-same : (l n : List ℕ) → defines l n ≡ true → as_text l ≡ l
+as_text-same l n e = by (definition_of l) refl e
+  where
+    by : (o : Option (List ℕ × ℤ)) → definition_of l ≡ o → name_is n o ≡ true → as_text l ≡ l
+    by None is h = absurd (true≢false (sym h))
+    by (Some d) is h = ap (λ b. if b then l else []) (is_utf8-from_IsUtf8 l (low_utf8 l (defined_low l d is)))
+
+chosen : {A : Type 0} (b c : Bool) (x y u v : A) → b ≡ c → (c ≡ true → x ≡ y) → u ≡ v → (if b then x else u) ≡ (if c then y else v)
+chosen true true x y u v e h k = h refl
+chosen false false x y u v e h k = k
+chosen true false x y u v e h k = absurd (true≢false e)
+chosen false true x y u v e h k = absurd (true≢false (sym e))
+
+-- the code of a name is the same among the texts
+pub code_in-texts : (ls : List (List ℕ)) (n : List ℕ) → code_in (map as_text ls) n ≡ code_in ls n
+code_in-texts [] n = refl
+code_in-texts (l ∷ ls) n =
+    chosen (defines (as_text l) n) (defines l n) (Some (as_text l)) (Some l) _ _ (ap (name_is n) (as_text-defined l)) (λ is. ap Some (as_text-same l n is)) (code_in-texts ls n)
+
+-- and the number of its line
+pub line_in-texts : (ls : List (List ℕ)) (at : ℕ) (n : List ℕ) → line_in at (map as_text ls) n ≡ line_in at ls n
+line_in-texts [] at n = refl
+line_in-texts (l ∷ ls) at n =
+    chosen (defines (as_text l) n) (defines l n) at at _ _ (ap (name_is n) (as_text-defined l)) (λ is. refl) (line_in-texts ls (suc at) n)
+
+kind_among-texts : (before : List (List ℕ)) (o : Option (List ℕ × ℤ)) → kind_among (map as_text before) o ≡ kind_among before o
+kind_among-texts before None = refl
+kind_among-texts before (Some d) = ap (λ o. if is_some o then Some Twice else None) (code_in-texts before d.0)
+
+line_fault-texts : (before : List (List ℕ)) (l : List ℕ) → line_fault (map as_text before) (as_text l) ≡ line_fault before l
+line_fault-texts before l = ap (kind_among (map as_text before)) (as_text-defined l) ∙ kind_among-texts before (definition_of l)
+
+-- and the first fault
+pub fault_in-texts : (ls before : List (List ℕ)) (at : ℕ) → fault_in (map as_text before) at (map as_text ls) ≡ fault_in before at ls
+fault_in-texts [] before at = refl
+fault_in-texts (l ∷ ls) before at =
+    ap₂ (or_later at) (line_fault-texts before l)
+    (ap (λ bs. fault_in bs (suc at) (map as_text ls)) (sym (map-append as_text before (l ∷ []))) ∙ fault_in-texts ls (before ++ l ∷ []) (suc at))
+
+-- pieces of a module as texts
+pub map-pieces : (ps : List (Bor (List ℕ))) → map (λ p. as_text p.now) ps ≡ map as_text (map (λ p. p.now) ps)
+map-pieces [] = refl
+map-pieces (p ∷ ps) = ap (λ ls. as_text p.now ∷ ls) (map-pieces ps)

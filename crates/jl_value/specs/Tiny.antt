@@ -94,9 +94,13 @@ abbrev pub fault_in : List (List ℕ) → ℕ → List (List ℕ) → Option Mod
 fault_in before at [] = None
 fault_in before at (l ∷ ls) = or_later at (line_fault before l) (fault_in (before ++ l ∷ []) (suc at) ls)
 
--- bytes that are no text have the fault in line 1
+-- the first fault of a module; a line whose bytes are no text is no definition
 abbrev pub tiny_fault : List ℕ → Option ModuleFault
-tiny_fault m = if is_utf8 m then fault_in [] 1 (tiny_lines m) else Some (record { line = 1; kind = BadLine })
+tiny_fault m = fault_in [] 1 (tiny_lines m)
+
+-- a line's bytes, or none of them where they are no text
+abbrev pub as_text : List ℕ → List ℕ
+as_text l = if is_utf8 l then l else []
 
 -- ---- a call
 

@@ -3,22 +3,22 @@ ghost use Rattle.std.specs.Prelude.{◌≡◌, ◌≢◌, ◌+◌, ◌++◌, ◌
 ghost use Rattle.std.specs.List.{slice_split, list_all};
 ghost use Rattle.std.specs.Char.{is_ascii_digit};
 ghost use Rattle.jl_value.specs.Library.{outcome_of};
-ghost use Rattle.jl_value.specs.Tiny.{is_positive, is_decimal, number_of, definition_of, defines, tiny_lines, without_empty_last, code_in, line_in, line_fault, fault_in, sum_answer, tiny_answer, tiny_code, tiny_line, tiny_fault};
+ghost use Rattle.jl_value.specs.Tiny.{is_positive, is_decimal, number_of, definition_of, defines, tiny_lines, without_empty_last, code_in, line_in, line_fault, fault_in, sum_answer, tiny_answer, tiny_code, tiny_line, tiny_fault, as_text};
 
 use crate::key::Args;
 use crate::library::{
     Called, CodeRef, Library, ModuleFault, ModuleFaultKind, Outcome, ReadModule, TaskError,
 };
 use crate::value::Value;
-use jl_text::{Text, is_name};
+use jl_text::{Bytes, Text, is_name};
 use std::alloc::{AllocError, Global};
 
-// A text, and the lines of it.
+// A module's bytes and its lines.
 #[derive(Drop)]
 struct Module {
-    text: Text,
+    bytes: Bytes,
     lines: Vec<Text>,
-    ghost cut: { lines.items ≡ tiny_lines text },
+    ghost cut: { lines.items ≡ map as_text (tiny_lines bytes) },
 }
 
 /// A library for tests: each line of a module is `NAME K`, and a call answers K plus the number of arguments.
@@ -92,7 +92,7 @@ fn defines(line: &str, name: &str) -> bool
 // ---- a module
 
 // The line that defines a name, and its number.
-fn find<'a>(lines: &'a [Text], name: &str) -> Option<CodeRef<'a>>
+fn find_line<'a>(lines: &'a [Text], name: &str) -> Option<CodeRef<'a>>
     ensures { MatchOption result (code_in lines.now name.now ≡ None)
         (λ r. (code_in lines.now name.now ≡ Some r.code.now) × (line_in 1 lines.now name.now ≡ r.line)) }
 {
@@ -114,7 +114,7 @@ fn fault_behind(before: &[Text], line: &str) -> Option<ModuleFaultKind>
 {
     match read_line(line) {
         None => Some(ModuleFaultKind::BadLine),
-        Some((name, _)) => match find(before, name) {
+        Some((name, _)) => match find_line(before, name) {
             None => None,
             Some(_) => Some(ModuleFaultKind::Twice),
         },
@@ -135,24 +135,34 @@ fn first_fault(lines: &[Text]) -> Option<ModuleFault>
     None
 }
 
-fn split_pieces<'a>(alloc: Global, text: &'a str) -> Result<Vec<&'a str>, AllocError>
-    ensures { IfOk result (λ v. map (λ x. x.now) v.items ≡ slice_split (λ b. b == 10) text.now) }
+fn split_pieces(alloc: Global, bytes: &[u8]) -> Result<Vec<&[u8]>, AllocError>
+    ensures { IfOk result (λ v. map (λ x. x.now) v.items ≡ slice_split (λ b. b == 10) bytes.now) }
 {
-    text.split('\n').collect(alloc)
+    bytes.split(|b| *b == b'\n').collect(alloc)
 }
 
-fn copied(alloc: Global, pieces: &[&str]) -> Result<Vec<Text>, AllocError>
-    ensures { IfOk result (λ v. v.items ≡ map (λ x. x.now) pieces.now) }
+// The text that bytes are, or else an empty one, which defines nothing either.
+fn as_text(bytes: &[u8]) -> &str
+    ensures { result.now ≡ as_text bytes.now }
+{
+    match std::str::from_utf8(bytes) {
+        Ok(text) => text,
+        Err(_) => "",
+    }
+}
+
+fn copy_pieces(alloc: Global, pieces: &[&[u8]]) -> Result<Vec<Text>, AllocError>
+    ensures { IfOk result (λ v. v.items ≡ map (λ x. as_text x.now) pieces.now) }
 {
     let mut texts = Vec::new(alloc);
     for piece in pieces {
-        texts.push(Text::new(String::from_str(alloc, piece)?))?;
+        texts.push(Text::new(String::from_str(alloc, as_text(piece))?))?;
     }
     Ok(texts)
 }
 
 // All pieces but an empty last one.
-fn without_end<'a, 'b>(pieces: &'b [&'a str]) -> &'b [&'a str]
+fn without_end<'a, 'b>(pieces: &'b [&'a [u8]]) -> &'b [&'a [u8]]
     ensures { map (λ x. x.now) result.now ≡ without_empty_last (map (λ x. x.now) pieces.now) }
 {
     if pieces.is_empty() {
@@ -165,20 +175,34 @@ fn without_end<'a, 'b>(pieces: &'b [&'a str]) -> &'b [&'a str]
     pieces
 }
 
-fn split_lines(alloc: Global, text: &str) -> Result<Vec<Text>, AllocError>
-    ensures { IfOk result (λ v. v.items ≡ tiny_lines text.now) }
+fn split_lines(alloc: Global, bytes: &[u8]) -> Result<Vec<Text>, AllocError>
+    ensures { IfOk result (λ v. v.items ≡ map as_text (tiny_lines bytes.now)) }
 {
-    let pieces = split_pieces(alloc, text)?;
-    copied(alloc, without_end(pieces.as_slice()))
+    let pieces = split_pieces(alloc, bytes)?;
+    copy_pieces(alloc, without_end(pieces.as_slice()))
 }
 
 impl Module {
-    fn new(alloc: Global, text: &str) -> Result<Module, AllocError>
-        ensures { IfOk result (λ m. m.text ≡ text.now) }
+    fn new(alloc: Global, bytes: &[u8]) -> Result<Module, AllocError>
+        ensures { IfOk result (λ m. m.bytes ≡ bytes.now) }
     {
-        let lines = split_lines(alloc, text)?;
-        let text = Text::new(String::from_str(alloc, text)?);
-        Ok(Module { text, lines })
+        let lines = split_lines(alloc, bytes)?;
+        let bytes = Bytes::new(Vec::from_slice(alloc, bytes)?);
+        Ok(Module { bytes, lines })
+    }
+
+    fn fault(&self) -> Option<ModuleFault>
+        ensures { result ≡ tiny_fault self.now.bytes }
+    {
+        first_fault(self.lines.as_slice())
+    }
+
+    fn find(&self, name: &str) -> Option<CodeRef<'_>>
+        ensures { MatchOption result (tiny_code self.now.bytes name.now ≡ None)
+            (λ r. (tiny_code self.now.bytes name.now ≡ Some r.code.now)
+            × (tiny_line self.now.bytes name.now ≡ r.line)) }
+    {
+        find_line(self.lines.as_slice(), name)
     }
 }
 
@@ -210,7 +234,7 @@ impl TinyLibrary {
     {
         TinyLibrary {
             module: Module {
-                text: Text::new(String::new(alloc)),
+                bytes: Bytes::new(Vec::new(alloc)),
                 lines: Vec::new(alloc),
             },
             count: 0,
@@ -230,21 +254,15 @@ impl Library for TinyLibrary {
 
     ghost fault = { tiny_fault };
 
-    ghost loaded = { λ s. s.module.text };
+    ghost loaded = { λ s. s.module.bytes };
 
     ghost calls = { λ s. s.count };
 
     fn read_module(&mut self, alloc: Global, bytes: &[u8]) -> ReadModule {
-        let Ok(text) = std::str::from_utf8(bytes) else {
-            return ReadModule::Fault(ModuleFault {
-                line: 1,
-                kind: ModuleFaultKind::BadLine,
-            });
-        };
-        let Ok(module) = Module::new(alloc, text) else {
+        let Ok(module) = Module::new(alloc, bytes) else {
             return ReadModule::NoMemory;
         };
-        match first_fault(module.lines.as_slice()) {
+        match module.fault() {
             Some(fault) => ReadModule::Fault(fault),
             None => {
                 self.module = module;
@@ -254,11 +272,11 @@ impl Library for TinyLibrary {
     }
 
     fn code_of(&self, name: &str) -> Option<CodeRef<'_>> {
-        find(self.module.lines.as_slice(), name)
+        self.module.find(name)
     }
 
     fn call(&mut self, _alloc: Global, name: &str, args: &Args) -> Called {
-        let found = find(self.module.lines.as_slice(), name).unwrap();
+        let found = self.module.find(name).unwrap();
         let outcome = answer(found.code, args);
         self.count = self.count.saturating_add(1);
         Called::Done(outcome)
@@ -266,7 +284,7 @@ impl Library for TinyLibrary {
 
     fn twin(&self, alloc: Global) -> Result<TinyLibrary, AllocError> {
         Ok(TinyLibrary {
-            module: Module::new(alloc, self.module.text.as_str())?,
+            module: Module::new(alloc, self.module.bytes.as_slice())?,
             count: 0,
         })
     }

@@ -1,6 +1,6 @@
 use Rattle.std.proofs.Common.{◌≡◌, ◌+◌, drop}
 use Rattle.jl_value.specs.Tiny.{code_in, line_in}
-use Rattle.jl_value.proofs.testing.tiny.find.Given as goal
+use Rattle.jl_value.proofs.testing.tiny.find_line.Given as goal
 
 abbrev pub invariant-loop-i : goal.invariant-loop-i
 invariant-loop-i l =
