@@ -13,6 +13,3 @@ pub use entries::clear_entry;
 pub use functions::clear_entries;
 pub use names::is_key_name;
 pub use removing::Clear;
-
-#[cfg(test)]
-mod tests;

@@ -17,6 +17,3 @@ pub use names::{
 };
 pub use output::{ReadOutput, read_output, write_output};
 pub use temp::temp_name;
-
-#[cfg(test)]
-mod tests;

@@ -13,6 +13,3 @@ pub use item::Item;
 pub use jl_quota::Limits;
 pub use reading::{ItemsRead, items};
 pub use reducing::{Reduced, reduce_size};
-
-#[cfg(test)]
-mod tests;

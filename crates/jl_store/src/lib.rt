@@ -25,8 +25,3 @@ pub use keeping::{keep, touch};
 pub use looking::look;
 pub use memory::{Memory, WarnKind, Warning, warning_text};
 pub use reading::read_final;
-
-#[cfg(test)]
-mod keeping_tests;
-#[cfg(test)]
-mod tests;
