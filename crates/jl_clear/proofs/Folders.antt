@@ -4,17 +4,16 @@ use Rattle.std.specs.Prelude.{IsTrue}
 use Rattle.std.specs.Option.{option_map_or}
 use Rattle.std.proofs.lemmas.List.{append_cancel_left}
 use Rattle.jl_text.specs.Paths.{PathView, is_fixed}
-use Rattle.jl_text.specs.Texts.{is_name}
+use Rattle.jl_text.specs.Texts.{is_name, is_token}
 use Rattle.jl_folder.specs.declared.moves.Place.{Place}
 use Rattle.jl_folder.specs.declared.moves.Place.TheVariants.{Folder, File}
 use Rattle.jl_folder.specs.State.{State, place_at, is_folder, is_file, is_folder_place, is_file_place}
 use Rattle.jl_entry.specs.declared.names.EntryFile.{EntryFile}
 use Rattle.jl_entry.specs.declared.names.EntryFile.TheVariants.{Output, Metadata, Access}
-use Rattle.jl_entry.specs.Names.{Final, code_of, entry_of, IsFinal, IsTemp, IsStoreName, IsStoreFolder, IsFolderParts, IsOnWay, IsBelow, below, final_parts, temp_parts, is_key, code_part, entry_part, suffix}
+use Rattle.jl_entry.specs.Names.{Final, code_of, entry_of, IsFinal, IsTemp, IsStoreName, IsStoreFolder, IsFolderParts, IsOnWay, IsBelow, below, final_parts, temp_parts, is_key, code_part, entry_part, suffix, IsEntryName, IsFunctionFolder, IsCodeName, IsKeyName, IsNameOf, IsModuleFolder, IsEntryFolder}
 use Rattle.jl_entry.proofs.NameFacts.{final_not_folder, temp_not_folder, final_below, temp_below}
 use Rattle.jl_rely.proofs.Causes.{place_none}
 use Rattle.jl_protocol.specs.Tidy.{IsTidy}
-use Rattle.jl_clear.specs.Taking.{IsEntryName, IsFunctionFolder, IsCodeName, IsKeyName, IsNameOf, IsModuleFolder, IsEntryFolder}
 use Rattle.jl_clear.specs.Clearing.{IsPlace}
 use Rattle.jl_clear.proofs.Paths.{free_named}
 
@@ -34,7 +33,7 @@ key_there part is e = true≢false (sym is ∙ ap is_key e)
 pub code_there : (part : List ℕ) → IsCodeName part → part ≢ []
 unfolding code_part
 code_there part (inl is) e = let h : [] ≡ code_part = sym e ∙ is in cc
-code_there part (inr is) e = let h : [] ≡ code_part ++ suffix is.0 = sym e ∙ is.1 in cc
+code_there part (inr is) e = let h : [] ≡ code_part ++ suffix is.0 = sym e ∙ is.2 in cc
 
 entry_long : (file : EntryFile) → 1 ≤ length (entry_part file)
 unfolding entry_part
@@ -44,7 +43,7 @@ entry_long Access = omega arith
 
 pub entry_there : (part : List ℕ) → IsEntryName part → part ≢ []
 entry_there part (file, inl is) e = let h : [] ≡ entry_part file = sym e ∙ is in omega (arith, ap length h, entry_long file)
-entry_there part (file, inr is) e = let h : [] ≡ entry_part file ++ suffix is.0 = sym e ∙ is.1 in omega (arith, ap length h, entry_long file, length-append (entry_part file) (suffix is.0))
+entry_there part (file, inr is) e = let h : [] ≡ entry_part file ++ suffix is.0 = sym e ∙ is.2 in omega (arith, ap length h, entry_long file, length-append (entry_part file) (suffix is.0))
 
 -- ---- the folders of a folder, and its files
 
@@ -70,13 +69,13 @@ pub code_name : (root folder : PathView) (part : List ℕ) → IsFunctionFolder 
 code_name root folder part of (inl is) =
     inl (code_of of.0 of.1, record { formed = (of.2, of.3); is = function_path root folder part of ∙ ap (λ (w : List ℕ). below root (of.0 ∷ of.1 ∷ w ∷ [])) is })
 code_name root folder part of (inr is) =
-    inr (code_of of.0 of.1, is.0, record { formed = (of.2, of.3); is = function_path root folder part of ∙ ap (λ (w : List ℕ). below root (of.0 ∷ of.1 ∷ w ∷ [])) is.1 })
+    inr (code_of of.0 of.1, is.0, record { formed = (of.2, of.3); of_token = is.1; is = function_path root folder part of ∙ ap (λ (w : List ℕ). below root (of.0 ∷ of.1 ∷ w ∷ [])) is.2 })
 
 pub entry_name : (root folder : PathView) (part : List ℕ) → IsEntryFolder root folder → IsEntryName part → IsStoreName root (folder ++ part ∷ [])
 entry_name root folder part of (file, inl is) =
     inl (entry_of file of.0 of.1 of.2, record { formed = (of.3, of.4, of.5); is = entry_path root folder (part ∷ []) of ∙ ap (λ (w : List ℕ). below root (of.0 ∷ of.1 ∷ of.2 ∷ w ∷ [])) is })
 entry_name root folder part of (file, inr is) =
-    inr (entry_of file of.0 of.1 of.2, is.0, record { formed = (of.3, of.4, of.5); is = entry_path root folder (part ∷ []) of ∙ ap (λ (w : List ℕ). below root (of.0 ∷ of.1 ∷ of.2 ∷ w ∷ [])) is.1 })
+    inr (entry_of file of.0 of.1 of.2, is.0, record { formed = (of.3, of.4, of.5); of_token = is.1; is = entry_path root folder (part ∷ []) of ∙ ap (λ (w : List ℕ). below root (of.0 ∷ of.1 ∷ of.2 ∷ w ∷ [])) is.2 })
 
 -- ---- folders of the store that have a parent
 
@@ -111,12 +110,12 @@ folder_parts root a rest q e (inl way) = absurd (omega (arith, ap length way.1, 
 folder_parts root a rest q e (inr (parts, formed, is)) = subst IsFolderParts (append_cancel_left root parts (a ∷ rest) (sym is ∙ e)) formed
 
 -- where a name of the store stands
-name_parts : (root parts q : PathView) → q ≡ below root parts → IsStoreName root q → ((x : Final) × (parts ≡ final_parts x)) ⊎ ((x : Final) × (token : List ℕ) × (parts ≡ temp_parts x token))
+name_parts : (root parts q : PathView) → q ≡ below root parts → IsStoreName root q → ((x : Final) × (parts ≡ final_parts x)) ⊎ ((x : Final) × (token : List ℕ) × IsTrue (is_token token) × (parts ≡ temp_parts x token))
 name_parts root parts q e (inl (x, final)) = inl (x, append_cancel_left root parts (final_parts x) (sym e ∙ final.is))
-name_parts root parts q e (inr (x, token, temp)) = inr (x, token, append_cancel_left root parts (temp_parts x token) (sym e ∙ temp.is))
+name_parts root parts q e (inr (x, token, temp)) = inr (x, token, temp.of_token, append_cancel_left root parts (temp_parts x token) (sym e ∙ temp.is))
 
 -- what stands right below the root at some parts
-stands_as : (root : PathView) (a : List ℕ) (rest q : PathView) (place : Place) (s : State) → IsTidy root s → q ≡ below root (a ∷ rest) → place_at s q ≡ Some place → IsFolderParts (a ∷ rest) ⊎ (((x : Final) × (a ∷ rest ≡ final_parts x)) ⊎ ((x : Final) × (token : List ℕ) × (a ∷ rest ≡ temp_parts x token)))
+stands_as : (root : PathView) (a : List ℕ) (rest q : PathView) (place : Place) (s : State) → IsTidy root s → q ≡ below root (a ∷ rest) → place_at s q ≡ Some place → IsFolderParts (a ∷ rest) ⊎ (((x : Final) × (a ∷ rest ≡ final_parts x)) ⊎ ((x : Final) × (token : List ℕ) × IsTrue (is_token token) × (a ∷ rest ≡ temp_parts x token)))
 unfolding IsBelow
 stands_as root a rest q Folder s tidy e is = inl (folder_parts root a rest q e (tidy.folders q is (a ∷ rest, e)))
 stands_as root a rest q (File n) s tidy e is = inr (name_parts root (a ∷ rest) q e (tidy.names q n is (a ∷ rest, e)))
@@ -174,14 +173,14 @@ entry_file root folder p of ([], e) name = absurd (not_itself name)
     not_itself (inr (x, t, temp)) = temp_not_folder root x t p temp itself
 entry_file root folder p of (part ∷ [], e) name = (part, by_case (name_parts root (of.0 ∷ of.1 ∷ of.2 ∷ part ∷ []) p (e ∙ entry_path root folder (part ∷ []) of) name), e)
   where
-    by_case : ((x : Final) × (of.0 ∷ of.1 ∷ of.2 ∷ part ∷ [] ≡ final_parts x)) ⊎ ((x : Final) × (token : List ℕ) × (of.0 ∷ of.1 ∷ of.2 ∷ part ∷ [] ≡ temp_parts x token)) → IsEntryName part
+    by_case : ((x : Final) × (of.0 ∷ of.1 ∷ of.2 ∷ part ∷ [] ≡ final_parts x)) ⊎ ((x : Final) × (token : List ℕ) × IsTrue (is_token token) × (of.0 ∷ of.1 ∷ of.2 ∷ part ∷ [] ≡ temp_parts x token)) → IsEntryName part
     by_case (inl (x, is)) = let file = four_final of.0 of.1 of.2 part x is in (file.0, inl file.1)
-    by_case (inr (x, t, is)) = let file = four_temp of.0 of.1 of.2 part x t is in (file.0, inr (t, file.1))
+    by_case (inr (x, t, ok, is)) = let file = four_temp of.0 of.1 of.2 part x t is in (file.0, inr (t, ok, file.1))
 entry_file root folder p of (part ∷ y ∷ ys, e) name = absurd (by_case (name_parts root (of.0 ∷ of.1 ∷ of.2 ∷ part ∷ y ∷ ys) p (e ∙ entry_path root folder (part ∷ y ∷ ys) of) name))
   where
-    by_case : ((x : Final) × (of.0 ∷ of.1 ∷ of.2 ∷ part ∷ y ∷ ys ≡ final_parts x)) ⊎ ((x : Final) × (token : List ℕ) × (of.0 ∷ of.1 ∷ of.2 ∷ part ∷ y ∷ ys ≡ temp_parts x token)) → ⊥
+    by_case : ((x : Final) × (of.0 ∷ of.1 ∷ of.2 ∷ part ∷ y ∷ ys ≡ final_parts x)) ⊎ ((x : Final) × (token : List ℕ) × IsTrue (is_token token) × (of.0 ∷ of.1 ∷ of.2 ∷ part ∷ y ∷ ys ≡ temp_parts x token)) → ⊥
     by_case (inl (x, is)) = five_not_final of.0 of.1 of.2 part y ys x is
-    by_case (inr (x, t, is)) = five_not_temp of.0 of.1 of.2 part y ys x t is
+    by_case (inr (x, t, ok, is)) = five_not_temp of.0 of.1 of.2 part y ys x t is
 
 -- and a folder of the store there is that folder
 pub entry_itself : (root folder p : PathView) → IsEntryFolder root folder → IsBelow folder p → IsStoreFolder root p → p ≡ folder
@@ -193,34 +192,34 @@ module _ (root : PathView) (s : State) (tidy : IsTidy root s) (part : List ℕ) 
   pub root_names : place_at s (root ++ part ∷ []) ≡ Some place → IsNameOf part
   root_names is = by_case (stands_as root part [] (root ++ part ∷ []) place s tidy refl is)
     where
-      by_case : IsFolderParts (part ∷ []) ⊎ (((x : Final) × (part ∷ [] ≡ final_parts x)) ⊎ ((x : Final) × (token : List ℕ) × (part ∷ [] ≡ temp_parts x token))) → IsNameOf part
+      by_case : IsFolderParts (part ∷ []) ⊎ (((x : Final) × (part ∷ [] ≡ final_parts x)) ⊎ ((x : Final) × (token : List ℕ) × IsTrue (is_token token) × (part ∷ [] ≡ temp_parts x token))) → IsNameOf part
       by_case (inl formed) = formed
       by_case (inr (inl (x, e))) = absurd (one_not_final part x e)
-      by_case (inr (inr (x, t, e))) = absurd (one_not_temp part x t e)
+      by_case (inr (inr (x, t, ok, e))) = absurd (one_not_temp part x t e)
 
   pub module_names : (folder : PathView) → IsModuleFolder root folder → place_at s (folder ++ part ∷ []) ≡ Some place → IsNameOf part
   module_names folder of is = by_case (stands_as root of.0 (part ∷ []) (folder ++ part ∷ []) place s tidy (module_path root folder part of) is)
     where
-      by_case : IsFolderParts (of.0 ∷ part ∷ []) ⊎ (((x : Final) × (of.0 ∷ part ∷ [] ≡ final_parts x)) ⊎ ((x : Final) × (token : List ℕ) × (of.0 ∷ part ∷ [] ≡ temp_parts x token))) → IsNameOf part
+      by_case : IsFolderParts (of.0 ∷ part ∷ []) ⊎ (((x : Final) × (of.0 ∷ part ∷ [] ≡ final_parts x)) ⊎ ((x : Final) × (token : List ℕ) × IsTrue (is_token token) × (of.0 ∷ part ∷ [] ≡ temp_parts x token))) → IsNameOf part
       by_case (inl formed) = formed.1
       by_case (inr (inl (x, e))) = absurd (two_not_final of.0 part x e)
-      by_case (inr (inr (x, t, e))) = absurd (two_not_temp of.0 part x t e)
+      by_case (inr (inr (x, t, ok, e))) = absurd (two_not_temp of.0 part x t e)
 
   pub function_names : (folder : PathView) → IsFunctionFolder root folder → place_at s (folder ++ part ∷ []) ≡ Some place → IsKeyName part ⊎ IsCodeName part
   function_names folder of is = by_case (stands_as root of.0 (of.1 ∷ part ∷ []) (folder ++ part ∷ []) place s tidy (function_path root folder part of) is)
     where
-      by_case : IsFolderParts (of.0 ∷ of.1 ∷ part ∷ []) ⊎ (((x : Final) × (of.0 ∷ of.1 ∷ part ∷ [] ≡ final_parts x)) ⊎ ((x : Final) × (token : List ℕ) × (of.0 ∷ of.1 ∷ part ∷ [] ≡ temp_parts x token))) → IsKeyName part ⊎ IsCodeName part
+      by_case : IsFolderParts (of.0 ∷ of.1 ∷ part ∷ []) ⊎ (((x : Final) × (of.0 ∷ of.1 ∷ part ∷ [] ≡ final_parts x)) ⊎ ((x : Final) × (token : List ℕ) × IsTrue (is_token token) × (of.0 ∷ of.1 ∷ part ∷ [] ≡ temp_parts x token))) → IsKeyName part ⊎ IsCodeName part
       by_case (inl formed) = inl formed.2
       by_case (inr (inl (x, e))) = inr (inl (three_final of.0 of.1 part x e))
-      by_case (inr (inr (x, t, e))) = inr (inr (t, three_temp of.0 of.1 part x t e))
+      by_case (inr (inr (x, t, ok, e))) = inr (inr (t, ok, three_temp of.0 of.1 part x t e))
 
   pub entry_names : (folder : PathView) → IsEntryFolder root folder → place_at s (folder ++ part ∷ []) ≡ Some place → IsEntryName part
   entry_names folder of is = by_case (stands_as root of.0 (of.1 ∷ of.2 ∷ part ∷ []) (folder ++ part ∷ []) place s tidy (entry_path root folder (part ∷ []) of) is)
     where
-      by_case : IsFolderParts (of.0 ∷ of.1 ∷ of.2 ∷ part ∷ []) ⊎ (((x : Final) × (of.0 ∷ of.1 ∷ of.2 ∷ part ∷ [] ≡ final_parts x)) ⊎ ((x : Final) × (token : List ℕ) × (of.0 ∷ of.1 ∷ of.2 ∷ part ∷ [] ≡ temp_parts x token))) → IsEntryName part
+      by_case : IsFolderParts (of.0 ∷ of.1 ∷ of.2 ∷ part ∷ []) ⊎ (((x : Final) × (of.0 ∷ of.1 ∷ of.2 ∷ part ∷ [] ≡ final_parts x)) ⊎ ((x : Final) × (token : List ℕ) × IsTrue (is_token token) × (of.0 ∷ of.1 ∷ of.2 ∷ part ∷ [] ≡ temp_parts x token))) → IsEntryName part
       by_case (inl formed) = absurd formed
       by_case (inr (inl (x, e))) = let file = four_final of.0 of.1 of.2 part x e in (file.0, inl file.1)
-      by_case (inr (inr (x, t, e))) = let file = four_temp of.0 of.1 of.2 part x t e in (file.0, inr (t, file.1))
+      by_case (inr (inr (x, t, ok, e))) = let file = four_temp of.0 of.1 of.2 part x t e in (file.0, inr (t, ok, file.1))
 
 -- ---- a name of the store is no folder, and a folder of the store no file
 

@@ -1,6 +1,5 @@
 pub mod DoingLemmas
 pub mod RemovingLemmas
-pub mod NameLemmas
 pub mod Paths
 pub mod Thinning
 pub mod Folders

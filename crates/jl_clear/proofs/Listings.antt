@@ -9,14 +9,14 @@ use Rattle.jl_folder.specs.declared.listing.Name.{Name}
 use Rattle.jl_folder.specs.State.{State, IsState, Trace, History, Opens, AtSome, AtEach, place_at, is_folder, is_folder_place, now, since, run}
 use Rattle.jl_folder.specs.Listing.{Stands, ListsNames}
 use Rattle.jl_folder.specs.Calls.{Waits}
-use Rattle.jl_entry.specs.Names.{IsBelow}
+use Rattle.jl_entry.specs.Names.{IsBelow, IsFunctionFolder, IsKeyName, IsCodeName, IsNameOf}
 use Rattle.jl_rely.specs.Steps.{IsLone}
 use Rattle.jl_rely.specs.Claims.{Anywhere}
 use Rattle.jl_rely.proofs.Since.{since_went}
 use Rattle.jl_rely.proofs.Composed.{went_waits, goes_waits}
 use Rattle.jl_rely.proofs.Alone.{foreign_lone, lone_parts, waits_alone}
 use Rattle.jl_protocol.specs.Tidy.{IsTidy}
-use Rattle.jl_clear.specs.Taking.{IsFunctionFolder, IsTaking, IsInside, IsKeyName, IsCodeName, IsNameOf}
+use Rattle.jl_clear.specs.Taking.{IsTaking, IsInside}
 use Rattle.jl_clear.proofs.DoingLemmas.{later_rose, does_then, does_waits, goes_does}
 use Rattle.jl_clear.specs.Clearing.{IsPlace, IsEmptied, IsOfEntries, HasAll, HasCode, Handled, Thinned, Clears}
 use Rattle.jl_clear.proofs.Paths.{by_place, child_there, inside_child, here_or_inside, nothing_inside, below_self}

@@ -6,11 +6,11 @@ use Rattle.jl_folder.specs.declared.listing.Name.{Name}
 use Rattle.jl_folder.specs.declared.moves.Place.{Place}
 use Rattle.jl_folder.specs.State.{State, History, Opens, place_at, node_at, now, since}
 use Rattle.jl_folder.specs.Listing.{Stands}
-use Rattle.jl_entry.specs.Names.{IsStoreFolder, IsBelow}
+use Rattle.jl_entry.specs.Names.{IsStoreFolder, IsBelow, IsKeyName, IsCodeName}
 use Rattle.jl_rely.specs.Steps.{IsLone}
 use Rattle.jl_protocol.specs.Tidy.{IsTidy}
 use Rattle.jl_clear.specs.Doing.{Does}
-use Rattle.jl_clear.specs.Taking.{IsTaking, IsInside, IsKeyName, IsCodeName}
+use Rattle.jl_clear.specs.Taking.{IsTaking, IsInside}
 
 -- ---- paths
 

@@ -1,48 +1,12 @@
 -- What clearing takes away.
-use Rattle.std.specs.Prelude.{◌≡◌, ◌⊎◌, ℕ, List, [], ◌∷◌, ◌++◌, None, IsTrue}
+use Rattle.std.specs.Prelude.{◌≡◌, ℕ, List, ◌∷◌, ◌++◌, None}
 use Rattle.jl_text.specs.Paths.{PathView}
-use Rattle.jl_text.specs.Texts.{is_name}
 use Rattle.jl_folder.specs.declared.moves.Move.{Move}
 use Rattle.jl_folder.specs.declared.moves.Move.TheVariants.{MakeDir, Create, Append, Rename, Remove, RemoveDir}
 use Rattle.jl_folder.specs.State.{State, place_at, bytes_at}
-use Rattle.jl_entry.specs.declared.names.EntryFile.{EntryFile}
-use Rattle.jl_entry.specs.Names.{IsStoreName, IsStoreFolder, below, is_key, code_part, entry_part, suffix}
+use Rattle.jl_entry.specs.Names.{IsStoreName, IsStoreFolder}
 
--- ---- names
-
--- this name, or a temporary one of it
-abbrev pub IsNamed : List ℕ → List ℕ → Type 0
-IsNamed name part = (part ≡ name) ⊎ ((token : List ℕ) × (part ≡ name ++ suffix token))
-
--- a file of an entry, under its final or a temporary name
-abbrev pub IsEntryName : List ℕ → Type 0
-IsEntryName part = (file : EntryFile) × IsNamed (entry_part file) part
-
--- the file of a function's code
-abbrev pub IsCodeName : List ℕ → Type 0
-IsCodeName part = IsNamed code_part part
-
--- the folder of an entry
-abbrev pub IsKeyName : List ℕ → Type 0
-IsKeyName part = IsTrue (is_key part)
-
--- the folder of a module or of a function
-abbrev pub IsNameOf : List ℕ → Type 0
-IsNameOf part = IsTrue (is_name part)
-
--- ---- folders
-
--- the folder of a module
-abbrev pub IsModuleFolder : (root : PathView) → PathView → Type 0
-IsModuleFolder root folder = (m : List ℕ) × IsTrue (is_name m) × (folder ≡ below root (m ∷ []))
-
--- the folder of a function
-abbrev pub IsFunctionFolder : (root : PathView) → PathView → Type 0
-IsFunctionFolder root folder = (m f : List ℕ) × IsTrue (is_name m) × IsTrue (is_name f) × (folder ≡ below root (m ∷ f ∷ []))
-
--- the folder of an entry
-abbrev pub IsEntryFolder : (root : PathView) → PathView → Type 0
-IsEntryFolder root folder = (m f k : List ℕ) × IsTrue (is_name m) × IsTrue (is_name f) × IsTrue (is_key k) × (folder ≡ below root (m ∷ f ∷ k ∷ []))
+-- ---- paths
 
 -- in a folder, or in one that stands in it
 abbrev pub IsInside : PathView → PathView → Type 0

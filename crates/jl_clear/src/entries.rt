@@ -1,13 +1,12 @@
 // Clearing an entry's folder.
 ghost use Rattle.std.specs.Prelude.{◌≡◌, ◌++◌, ◌∷◌, [], All, IsTrue};
 ghost use Rattle.jl_text.specs.Paths.{PathView, is_part};
-ghost use Rattle.jl_entry.specs.Names.{IsBelow};
+ghost use Rattle.jl_entry.specs.Names.{IsBelow, IsEntryName, IsEntryFolder};
 ghost use Rattle.jl_rely.specs.Claims.{Anywhere};
-ghost use Rattle.jl_clear.specs.Taking.{IsEntryName, IsEntryFolder};
 ghost use Rattle.jl_clear.specs.Clearing.{Clears, HasAll, Handled, ClearsPart};
 
-use crate::names::is_entry_name;
 use crate::removing::{Clear, clear_file, clear_folder};
+use jl_entry::is_entry_name;
 use jl_folder::{Folder, Listed, Name, NameList, Path};
 use std::alloc::Global;
 

@@ -1,14 +1,13 @@
 // Clearing a function's folder.
 ghost use Rattle.std.specs.Prelude.{◌≡◌, ◌⊎◌, ◌++◌, ◌∷◌, [], All, IsTrue};
 ghost use Rattle.jl_text.specs.Paths.{PathView, is_part};
-ghost use Rattle.jl_entry.specs.Names.{IsBelow};
+ghost use Rattle.jl_entry.specs.Names.{IsBelow, IsFunctionFolder, IsCodeName, IsKeyName};
 ghost use Rattle.jl_rely.specs.Claims.{Anywhere};
-ghost use Rattle.jl_clear.specs.Taking.{IsFunctionFolder, IsCodeName, IsKeyName};
 ghost use Rattle.jl_clear.specs.Clearing.{Clears, HasAll, HasCode, Handled, IsOfEntries, ClearsPart};
 
 use crate::entries::clear_entry;
-use crate::names::{is_code_name, is_key_name};
 use crate::removing::{Clear, clear_file, clear_folder};
+use jl_entry::{is_code_name, is_key_name};
 use jl_folder::{Folder, Listed, Name, NameList, Path};
 use std::alloc::Global;
 

@@ -5,11 +5,9 @@ mod clear;
 mod entries;
 mod functions;
 mod modules;
-mod names;
 mod removing;
 
 pub use clear::{clear_all, clear_function, clear_item, clear_module};
 pub use entries::clear_entry;
 pub use functions::clear_entries;
-pub use names::is_key_name;
 pub use removing::Clear;

@@ -1,9 +1,9 @@
 // Clearing the folders of modules.
 ghost use Rattle.std.specs.Prelude.{◌≡◌, ◌++◌, ◌∷◌, [], All, IsTrue};
 ghost use Rattle.jl_text.specs.Paths.{PathView, is_part};
-ghost use Rattle.jl_entry.specs.Names.{IsBelow};
+ghost use Rattle.jl_entry.specs.Names.{IsBelow, IsModuleFolder, IsNameOf};
 ghost use Rattle.jl_rely.specs.Claims.{Anywhere};
-ghost use Rattle.jl_clear.specs.Taking.{IsModuleFolder, IsNameOf, IsInside};
+ghost use Rattle.jl_clear.specs.Taking.{IsInside};
 ghost use Rattle.jl_clear.specs.Clearing.{Clears, HasAll, Handled, ClearsPart};
 
 use crate::functions::clear_function_folder;

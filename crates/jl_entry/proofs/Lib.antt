@@ -6,3 +6,4 @@ pub mod MomentFacts
 pub mod NameFacts
 pub mod KeyFacts
 pub mod TempFacts
+pub mod PartLemmas

@@ -126,15 +126,17 @@ temp_of-last (p ∷ r) q token h =
     ∙ (λ i. folder i ++ (last i ++ suffix token) ∷ [])
 
 -- the temporary name of a final name is that of its file
-pub temp_of-final : (root : PathView) (x : Final) (last : PathView) (token : List ℕ) → IsFinal root x last → IsTemp root x token (temp_of last token)
-temp_of-final root (code_of m f) last token h = record {
+pub temp_of-final : (root : PathView) (x : Final) (last : PathView) (token : List ℕ) → is_token token ≡ true → IsFinal root x last → IsTemp root x token (temp_of last token)
+temp_of-final root (code_of m f) last token ok h = record {
   formed = h.formed;
+  of_token = ok;
   is = ap (λ p. temp_of p token) (h.is ∙ sym (append_assoc root (m ∷ f ∷ []) (code_part ∷ [])))
       ∙ temp_of-last (root ++ m ∷ f ∷ []) code_part token (omega (arith, length-append root (m ∷ f ∷ [])))
       ∙ append_assoc root (m ∷ f ∷ []) ((code_part ++ suffix token) ∷ []);
 }
-temp_of-final root (entry_of w m f k) last token h = record {
+temp_of-final root (entry_of w m f k) last token ok h = record {
   formed = h.formed;
+  of_token = ok;
   is = ap (λ p. temp_of p token) (h.is ∙ sym (append_assoc root (m ∷ f ∷ k ∷ []) (entry_part w ∷ [])))
       ∙ temp_of-last (root ++ m ∷ f ∷ k ∷ []) (entry_part w) token (omega (arith, length-append root (m ∷ f ∷ k ∷ [])))
       ∙ append_assoc root (m ∷ f ∷ k ∷ []) ((entry_part w ++ suffix token) ∷ []);

@@ -2,7 +2,7 @@
 use Rattle.std.specs.Prelude.{◌≡◌, ◌⊎◌, ℕ, Bool, false, ◌&&◌, ◌||◌, nat_eq, nat_le, List, [], ◌∷◌, ◌++◌, length, IsTrue, cond, codes, unwrap_or, ⊤}
 use Rattle.std.specs.List.{list_all}
 use Rattle.jl_text.specs.Paths.{PathView, is_fixed, parent, last_part}
-use Rattle.jl_text.specs.Texts.{is_name}
+use Rattle.jl_text.specs.Texts.{is_name, is_token}
 use Rattle.jl_entry.specs.declared.names.EntryFile.{EntryFile}
 use Rattle.jl_entry.specs.declared.names.EntryFile.TheVariants.{Output, Metadata, Access}
 
@@ -33,6 +33,30 @@ entry_part Access = codes "last_access"
 -- `.tmp-` and a token
 unfoldable pub suffix : List ℕ → List ℕ
 suffix token = codes ".tmp-" ++ token
+
+-- the suffix of a temporary name
+abbrev pub IsSuffix : List ℕ → Type 0
+IsSuffix rest = (token : List ℕ) × IsTrue (is_token token) × (rest ≡ suffix token)
+
+-- this name, or a temporary one of it
+abbrev pub IsNamed : List ℕ → List ℕ → Type 0
+IsNamed name part = (part ≡ name) ⊎ ((token : List ℕ) × IsTrue (is_token token) × (part ≡ name ++ suffix token))
+
+-- a file of an entry, under its final or a temporary name
+abbrev pub IsEntryName : List ℕ → Type 0
+IsEntryName part = (file : EntryFile) × IsNamed (entry_part file) part
+
+-- the file of a function's code, under its final or a temporary name
+abbrev pub IsCodeName : List ℕ → Type 0
+IsCodeName part = IsNamed code_part part
+
+-- the folder of an entry
+abbrev pub IsKeyName : List ℕ → Type 0
+IsKeyName part = IsTrue (is_key part)
+
+-- the folder of a module or of a function
+abbrev pub IsNameOf : List ℕ → Type 0
+IsNameOf part = IsTrue (is_name part)
 
 -- ---- paths
 
@@ -72,6 +96,7 @@ pub record IsFinal (root : PathView) (x : Final) (p : PathView) : Type 0 where
 -- the path is the temporary name of this file and token
 pub record IsTemp (root : PathView) (x : Final) (token : List ℕ) (p : PathView) : Type 0 where
   pub formed : IsFormed x
+  pub of_token : IsTrue (is_token token)
   pub is : p ≡ below root (temp_parts x token)
 
 -- a final or temporary name of the store
@@ -79,6 +104,18 @@ abbrev pub IsStoreName : PathView → PathView → Type 0
 IsStoreName root p = ((x : Final) × IsFinal root x p) ⊎ ((x : Final) × (token : List ℕ) × IsTemp root x token p)
 
 -- ---- folders
+
+-- the folder of a module
+abbrev pub IsModuleFolder : (root : PathView) → PathView → Type 0
+IsModuleFolder root folder = (m : List ℕ) × IsTrue (is_name m) × (folder ≡ below root (m ∷ []))
+
+-- the folder of a function
+abbrev pub IsFunctionFolder : (root : PathView) → PathView → Type 0
+IsFunctionFolder root folder = (m f : List ℕ) × IsTrue (is_name m) × IsTrue (is_name f) × (folder ≡ below root (m ∷ f ∷ []))
+
+-- the folder of an entry
+abbrev pub IsEntryFolder : (root : PathView) → PathView → Type 0
+IsEntryFolder root folder = (m f k : List ℕ) × IsTrue (is_name m) × IsTrue (is_name f) × IsTrue (is_key k) × (folder ≡ below root (m ∷ f ∷ k ∷ []))
 
 -- a path that begins at the topmost folder
 abbrev pub is_rooted : PathView → Bool

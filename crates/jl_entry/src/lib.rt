@@ -7,6 +7,7 @@ mod moments;
 mod names;
 mod numbers;
 mod output;
+mod parts;
 mod temp;
 
 pub use codes::{same_code, write_code};
@@ -16,4 +17,5 @@ pub use names::{
     EntryFile, code_file, entry_file, entry_folder, function_folder, module_folder, root,
 };
 pub use output::{ReadOutput, read_output, write_output};
+pub use parts::{is_code_name, is_entry_name, is_key_name};
 pub use temp::temp_name;

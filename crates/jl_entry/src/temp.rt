@@ -1,6 +1,7 @@
 // Where a path's temporary names stand.
 ghost use Rattle.std.specs.Prelude.{◌≡◌, ◌⊎◌, ◌++◌, ℕ, List, [], ◌∷◌, IsTrue, IfOk, string_bytes, unwrap_or};
 ghost use Rattle.jl_text.specs.Paths.{PathView, is_part, last_part};
+ghost use Rattle.jl_text.specs.Texts.{is_token};
 ghost use Rattle.jl_entry.specs.Names.{Final, IsFinal, IsTemp, folder_of, temp_of, suffix};
 
 use jl_text::{Path, Token};
@@ -61,7 +62,8 @@ fn temp_part(alloc: Global, part: &str, token: &str) -> Result<String, AllocErro
 
 fn join_temp(alloc: Global, folder: &Path, part: &str, token: &Token) -> Result<Path, AllocError>
     requires { (part.now ≡ []) ⊎ IsTrue (is_part part.now) }
-    ensures { IfOk result (λ p. p ≡ folder.now ++ (part.now ++ suffix token.now) ∷ []) }
+    ensures path { IfOk result (λ p. p ≡ folder.now ++ (part.now ++ suffix token.now) ∷ []) }
+    ensures of_token { IsTrue (is_token token.now) }
 {
     let token = token.as_str();
     let text = temp_part(alloc, part, token)?;

@@ -9,7 +9,7 @@ use Rattle.jl_text.specs.Counts.{Faults, Rose}
 use Rattle.jl_folder.specs.State.{State, Trace, History, Opens, IsState, IsHistory, now, since}
 use Rattle.jl_folder.specs.Calls.{Waits}
 use Rattle.jl_folder.proofs.StateKept.{IsState-run}
-use Rattle.jl_entry.specs.Names.{IsBelow, below}
+use Rattle.jl_entry.specs.Names.{IsBelow, below, IsEntryFolder}
 use Rattle.jl_rely.specs.Claims.{Anywhere}
 use Rattle.jl_rely.specs.Steps.{IsLone}
 use Rattle.jl_rely.proofs.Composed.{goes_waits}
@@ -18,7 +18,7 @@ use Rattle.jl_quota.specs.declared.limits.Limits.{Limits}
 use Rattle.jl_protocol.specs.Tidy.{IsTidy}
 use Rattle.jl_clear.specs.Doing.{Does}
 use Rattle.jl_clear.proofs.DoingLemmas.{later_rose, does_then, does_as, does_waits, goes_does}
-use Rattle.jl_clear.specs.Taking.{IsEntryFolder, IsTaking, IsTakenAway}
+use Rattle.jl_clear.specs.Taking.{IsTaking, IsTakenAway}
 use Rattle.jl_clear.specs.Clearing.{Clears}
 use Rattle.jl_clear.proofs.Parts.{clears_none, clears_as, clears_then}
 use Rattle.jl_clear.proofs.Listings.{clears_waits}

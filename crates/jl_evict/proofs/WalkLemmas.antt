@@ -15,9 +15,8 @@ use Rattle.jl_folder.specs.State.{State, Trace, History, Opens, IsState, AtSome,
 use Rattle.jl_folder.specs.Listing.{Stands, ListsNames}
 use Rattle.jl_folder.specs.Calls.{Waits}
 use Rattle.jl_entry.specs.declared.names.EntryFile.TheVariants.{Access}
-use Rattle.jl_entry.specs.Names.{IsBelow, below, is_key, entry_part}
+use Rattle.jl_entry.specs.Names.{IsBelow, below, is_key, entry_part, IsNameOf, IsKeyName}
 use Rattle.jl_rely.specs.Claims.{Anywhere}
-use Rattle.jl_clear.specs.Taking.{IsNameOf, IsKeyName}
 use Rattle.jl_clear.proofs.Paths.{below_self, below_more, by_place, child_there, nothing_inside, no_folder}
 use Rattle.jl_clear.proofs.Listings.{at_each, at_some}
 use Rattle.jl_evict.specs.declared.item.Item.{Item}

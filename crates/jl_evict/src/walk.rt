@@ -8,7 +8,7 @@ ghost use Rattle.jl_evict.specs.Walks.{Adds, Pushes, IsAt, IsSizedEntry, Listing
 
 use crate::item::Item;
 use crate::measure::{Measure, entry_access, entry_bytes};
-use jl_clear::is_key_name;
+use jl_entry::is_key_name;
 use jl_folder::{Folder, Listed, Name, Path};
 use jl_text::is_name;
 use std::alloc::{AllocError, Global};

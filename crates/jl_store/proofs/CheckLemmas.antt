@@ -10,7 +10,7 @@ use Rattle.jl_text.specs.Counts.{Rose}
 use Rattle.jl_folder.specs.Reading.{ReadsNamed}
 use Rattle.jl_folder.proofs.ReadingLemmas.{IsUnwritten-split}
 use Rattle.jl_entry.specs.Codes.{IsSameCode}
-use Rattle.jl_entry.specs.Names.{Final, code_of, IsFinal, IsTemp}
+use Rattle.jl_entry.specs.Names.{Final, code_of, IsFinal, IsTemp, IsFunctionFolder}
 use Rattle.jl_entry.proofs.NameFacts.{final_one_way}
 use Rattle.jl_rely.specs.Steps.{OwnMoves}
 use Rattle.jl_rely.specs.Claims.{GoesOn, Called, Anywhere}
@@ -22,7 +22,6 @@ use Rattle.jl_protocol.specs.Tidy.{IsTidy}
 use Rattle.jl_protocol.specs.Proper.{IsProper, IsLawful, RenamesTrue, LawfulThroughout}
 use Rattle.jl_protocol.proofs.Kills.{tidy_carried}
 use Rattle.jl_clear.specs.Doing.{Does}
-use Rattle.jl_clear.specs.Taking.{IsFunctionFolder}
 use Rattle.jl_clear.proofs.DoingLemmas.{later_rose, moves_called, does_none}
 use Rattle.jl_store.specs.Doing.{IsMaking, IsClearing}
 use Rattle.jl_store.specs.Kinds.{IsFor, RenamesThis, PutsThis}

@@ -4,12 +4,12 @@ use Rattle.jl_text.specs.Paths.{PathView}
 use Rattle.jl_folder.specs.declared.moves.Move.{Move}
 use Rattle.jl_folder.specs.declared.moves.Move.TheVariants.{MakeDir, Create, Append, Rename, Remove, RemoveDir}
 use Rattle.jl_folder.specs.State.{State, History, Opens, now, since}
-use Rattle.jl_entry.specs.Names.{IsBelow}
+use Rattle.jl_entry.specs.Names.{IsBelow, IsFunctionFolder}
 use Rattle.jl_rely.specs.Steps.{IsLone}
 use Rattle.jl_rely.specs.Claims.{Anywhere}
 use Rattle.jl_protocol.specs.Tidy.{IsTidy}
 use Rattle.jl_clear.specs.Doing.{Does}
-use Rattle.jl_clear.specs.Taking.{IsFunctionFolder, IsTaking, IsTakenAway}
+use Rattle.jl_clear.specs.Taking.{IsTaking, IsTakenAway}
 use Rattle.jl_clear.specs.Clearing.{IsOfEntries, Clears}
 use Rattle.jl_clear.proofs.DoingLemmas.{does_as}
 use Rattle.jl_clear.proofs.Folders.{entry_in, entry_file, entry_itself}

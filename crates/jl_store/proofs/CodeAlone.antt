@@ -10,12 +10,11 @@ use Rattle.jl_folder.specs.State.{State, Trace, History, place_at, node_at, byte
 use Rattle.jl_folder.specs.Calls.{Waits}
 use Rattle.jl_folder.specs.Reading.{IsUnwritten}
 use Rattle.jl_entry.specs.Codes.{IsSameCode}
-use Rattle.jl_entry.specs.Names.{code_of, IsFinal, IsTemp, IsStoreFolder, code_part, suffix}
+use Rattle.jl_entry.specs.Names.{code_of, IsFinal, IsTemp, IsStoreFolder, code_part, suffix, IsFunctionFolder}
 use Rattle.jl_entry.proofs.NameFacts.{final_not_folder, temp_not_folder}
 use Rattle.jl_rely.specs.Steps.{StepFact, AllSteps, Throughout, IsLone}
 use Rattle.jl_rely.proofs.Alone.{waits_alone}
 use Rattle.jl_protocol.specs.Whole.{most_bytes}
-use Rattle.jl_clear.specs.Taking.{IsFunctionFolder}
 use Rattle.jl_clear.proofs.Folders.{entry_in, entry_place}
 use Rattle.jl_clear.proofs.Listings.{front_none, no_moves}
 use Rattle.jl_store.specs.Doing.{IsPrefix}

@@ -1,4 +1,6 @@
 -- Making the entry's folder.
+use Rattle.jl_text.specs.Texts.{is_token}
+use Rattle.std.specs.Prelude.{IsTrue}
 use Rattle.std.proofs.Common.{◌≡◌, ◌≢◌, ◌⊎◌, inl, inr, ⊎_elim, ℕ, true, false, List, [], ◌++◌, Option, None, Some, IsSome, true≢false, refl, sym, ap, subst, ◌∙◌}
 use Rattle.std.specs.Option.{option_map_or}
 use Rattle.jl_text.specs.Paths.{PathView}
@@ -54,7 +56,7 @@ folder_if : (o : Option Place) → IsSome o → ((n : ℕ) → o ≡ Some (File 
 folder_if None some none = absurd (true≢false (sym some))
 folder_if (Some place) some none = elim place as (λ (k : Place). ((n : ℕ) → Some k ≡ Some (File n) → ⊥) → is_folder_place k ≡ true) [ Folder ↦ λ h. refl | File n ↦ λ h. absurd (h n refl) ] none
 
-module _ (e : Entry) (token : List ℕ) (named : IsNamed e) (old new : History) where
+module _ (e : Entry) (token : List ℕ) (named : IsNamed e) (ok : IsTrue (is_token token)) (old new : History) where
   abbrev Turn : (EntryFile → List ℕ) → State → Option Move → Type 0
   Turn text s own = IsOwnTurn (IsProper e.root) (PutsEntry e text) token (IsKeeping e token) (IsTidy e.root) Anywhere s own
 
@@ -140,7 +142,7 @@ module _ (e : Entry) (token : List ℕ) (named : IsNamed e) (old new : History) 
       inl (record {
         home = home;
         last_free = folder_as (now old) (now new) (last_of e file) a ∙ final_no_folder e.root (file_of e file) (last_of e file) (now old) (final_of e named file) tidy;
-        temp_free = folder_as (now old) (now new) (temp_of e token file) b ∙ temp_no_folder e.root (file_of e file) token (temp_of e token file) (now old) (temp_is e named token file) tidy;
+        temp_free = folder_as (now old) (now new) (temp_of e token file) b ∙ temp_no_folder e.root (file_of e file) token (temp_of e token file) (now old) (temp_is e named token ok file) tidy;
       }))
       (λ (t : TouchedByOther token (UsesEntry e token) (since old new)). inr t)
       (until_end token (UsesEntry e token) (MakesThis (entry_path e)) (temp_of e token file) (inl (file, inr refl)) (makes_apart (entry_path e) (temp_of e token file) (λ s. entry_not_temp e token file (sym s))) old new moves went own))

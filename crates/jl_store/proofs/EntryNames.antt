@@ -3,7 +3,7 @@ use Rattle.std.proofs.Common.{◌≡◌, ◌≢◌, inl, inr, ℕ, true, false, 
 use Rattle.std.specs.Prelude.{IsTrue}
 use Rattle.std.proofs.lemmas.List.{append_cancel_left}
 use Rattle.jl_text.specs.Paths.{PathView, is_fixed, parent}
-use Rattle.jl_text.specs.Texts.{is_name}
+use Rattle.jl_text.specs.Texts.{is_name, is_token}
 use Rattle.jl_folder.specs.declared.moves.Move.TheVariants.{MakeDir, Create, Append, Rename, Remove, RemoveDir}
 use Rattle.jl_folder.specs.State.{State, is_folder, has_parent}
 use Rattle.jl_entry.specs.declared.names.EntryFile.{EntryFile}
@@ -22,8 +22,8 @@ IsNamed e = IsTrue (is_name e.module_name) × IsTrue (is_name e.function_name) �
 pub final_of : (e : Entry) → IsNamed e → (file : EntryFile) → IsFinal e.root (file_of e file) (last_of e file)
 final_of e named file = record { formed = named; is = refl }
 
-pub temp_is : (e : Entry) → IsNamed e → (token : List ℕ) (file : EntryFile) → IsTemp e.root (file_of e file) token (temp_of e token file)
-temp_is e named token file = record { formed = named; is = refl }
+pub temp_is : (e : Entry) → IsNamed e → (token : List ℕ) → IsTrue (is_token token) → (file : EntryFile) → IsTemp e.root (file_of e file) token (temp_of e token file)
+temp_is e named token ok file = record { formed = named; of_token = ok; is = refl }
 
 pub entry_in_store : (e : Entry) → IsNamed e → IsStoreFolder e.root (entry_path e)
 unfolding IsStoreFolder

@@ -12,7 +12,7 @@ use Rattle.jl_folder.specs.declared.folder.MadeDir.TheVariants as made_dir
 use Rattle.jl_folder.specs.State.{State, History, place_at, is_folder, is_folder_place, has_parent, now, since, run, after}
 use Rattle.jl_folder.specs.Calls.{Call, MakesDir, own_event}
 use Rattle.jl_folder.proofs.Traces.{run-append}
-use Rattle.jl_entry.specs.Names.{IsStoreFolder}
+use Rattle.jl_entry.specs.Names.{IsStoreFolder, IsFunctionFolder}
 use Rattle.jl_rely.specs.Steps.{AllSteps}
 use Rattle.jl_rely.specs.Claims.{GoesOn}
 use Rattle.jl_rely.specs.Touches.{TouchedByOther}
@@ -26,7 +26,6 @@ use Rattle.jl_protocol.specs.Proper.{IsProper}
 use Rattle.jl_protocol.specs.Tidy.{IsTidy}
 use Rattle.jl_protocol.proofs.Before.{some_of}
 use Rattle.jl_protocol.proofs.Kills.{tidy_at_end}
-use Rattle.jl_clear.specs.Taking.{IsFunctionFolder}
 use Rattle.jl_store.specs.Doing.{IsPrefix}
 use Rattle.jl_store.specs.Storing.{folders_of, StepOr, FoldersOr}
 use Rattle.jl_store.specs.declared.folders.MadeFolders.{MadeFolders}

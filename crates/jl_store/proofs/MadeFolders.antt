@@ -9,7 +9,7 @@ use Rattle.jl_rely.specs.Steps.{IsLone}
 use Rattle.jl_rely.specs.Touches.{TouchedByOther}
 use Rattle.jl_protocol.specs.Proper.{IsProper}
 use Rattle.jl_protocol.specs.Tidy.{IsTidy}
-use Rattle.jl_clear.specs.Taking.{IsFunctionFolder}
+use Rattle.jl_entry.specs.Names.{IsFunctionFolder}
 use Rattle.jl_clear.specs.Doing.{Moves}
 use Rattle.jl_store.specs.declared.folders.MadeFolders.TheVariants as made_folders
 use Rattle.jl_store.specs.Doing.{IsPrefix, IsMaking}

@@ -7,7 +7,7 @@ use Rattle.jl_folder.specs.declared.moves.Move.TheVariants.{Rename}
 use Rattle.jl_folder.specs.State.{State, Trace, History, Opens, AtSome, is_file, now, since}
 use Rattle.jl_text.specs.Counts.{Rose}
 use Rattle.jl_entry.specs.Codes.{IsSameCode}
-use Rattle.jl_entry.specs.Names.{Final, code_of, IsFinal, IsTemp, below, final_parts, temp_parts}
+use Rattle.jl_entry.specs.Names.{Final, code_of, IsFinal, IsTemp, below, final_parts, temp_parts, IsFunctionFolder}
 use Rattle.jl_rely.specs.Steps.{AllSteps, OwnMoves}
 use Rattle.jl_rely.specs.Touches.{TouchedByOther}
 use Rattle.jl_rely.specs.Claims.{GoesOn, Called, Anywhere, Silent}
@@ -25,7 +25,6 @@ use Rattle.jl_store.specs.declared.checks.CodeCheck.TheVariants as check
 use Rattle.jl_store.specs.declared.checks.Held.{Held}
 use Rattle.jl_store.specs.declared.checks.Held.TheVariants as held
 use Rattle.jl_store.specs.declared.checks.CodeFiles.{CodeFiles}
-use Rattle.jl_clear.specs.Taking.{IsFunctionFolder}
 
 -- ---- what the file holds
 

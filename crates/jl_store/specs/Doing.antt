@@ -3,8 +3,7 @@ use Rattle.std.specs.Prelude.{◌≡◌, ℕ, false, List, [], ◌∷◌, ◌++�
 use Rattle.jl_text.specs.Paths.{PathView, is_fixed}
 use Rattle.jl_folder.specs.declared.moves.Move.{Move}
 use Rattle.jl_folder.specs.declared.moves.Move.TheVariants.{MakeDir, Create, Append, Rename, Remove, RemoveDir}
-use Rattle.jl_entry.specs.Names.{is_key}
-use Rattle.jl_clear.specs.Taking.{IsEntryName}
+use Rattle.jl_entry.specs.Names.{is_key, IsEntryName}
 
 -- a first part of a path
 abbrev pub IsPrefix : PathView → PathView → Type 0

@@ -3,11 +3,10 @@ ghost use Rattle.std.specs.Prelude.{◌≡◌, ◌⊎◌, ◌++◌, ◌∷◌, �
 ghost use Rattle.jl_text.specs.Paths.{PathView, is_part, is_fixed};
 ghost use Rattle.jl_folder.specs.State.{now, since};
 ghost use Rattle.jl_text.specs.Counts.{Rose};
-ghost use Rattle.jl_entry.specs.Names.{IsStoreFolder};
+ghost use Rattle.jl_entry.specs.Names.{IsStoreFolder, IsFunctionFolder};
 ghost use Rattle.jl_rely.specs.Steps.{AllSteps, IsLone};
 ghost use Rattle.jl_protocol.specs.Proper.{IsProper};
 ghost use Rattle.jl_protocol.specs.Tidy.{IsTidy};
-ghost use Rattle.jl_clear.specs.Taking.{IsFunctionFolder};
 ghost use Rattle.jl_clear.specs.Doing.{Does};
 ghost use Rattle.jl_store.specs.Alone.{HasFolders};
 ghost use Rattle.jl_store.specs.Doing.{IsMaking};

@@ -1,10 +1,9 @@
 use Rattle.std.proofs.Common.{◌≡◌, ◌+◌, ◌∙◌, ◌++◌, ◌∷◌, [], take, sym, ap, refl, add-one}
 use Rattle.std.proofs.Math.Seq.{take-suc}
 use Rattle.std.proofs.lemmas.List.{take_all}
-use Rattle.jl_entry.specs.Names.{IsBelow}
+use Rattle.jl_entry.specs.Names.{IsBelow, IsCodeName}
 use Rattle.jl_rely.specs.Claims.{Anywhere}
 use Rattle.jl_clear.specs.declared.removing.Clear.TheVariants.{Cleared, Fault}
-use Rattle.jl_clear.specs.Taking.{IsCodeName}
 use Rattle.jl_clear.specs.Clearing.{ClearsPart, Handled}
 use Rattle.jl_clear.proofs.Parts.{clears_start, clears_more, clears_every, clears_stop}
 use Rattle.jl_clear.proofs.functions.clear_code_names.Goals as goal

@@ -1,8 +1,7 @@
 use Rattle.std.proofs.Common.{take}
 use Rattle.jl_text.specs.Paths.{PathView}
-use Rattle.jl_entry.specs.Names.{IsBelow}
+use Rattle.jl_entry.specs.Names.{IsBelow, IsFunctionFolder, IsCodeName}
 use Rattle.jl_rely.specs.Claims.{Anywhere}
-use Rattle.jl_clear.specs.Taking.{IsFunctionFolder, IsCodeName}
 use Rattle.jl_clear.specs.Clearing.{Clears, Handled}
 use Rattle.jl_clear.proofs.functions.clear_code_names.Given as goal
 

@@ -2,7 +2,7 @@ use Rattle.std.proofs.Common.{◌≡◌, List, refl, subst}
 use Rattle.jl_folder.specs.declared.listing.Name.{Name}
 use Rattle.jl_rely.specs.Claims.{Anywhere}
 use Rattle.jl_clear.specs.declared.removing.Clear.TheVariants.{Cleared, Fault, NoMemory}
-use Rattle.jl_clear.specs.Taking.{IsKeyName}
+use Rattle.jl_entry.specs.Names.{IsKeyName}
 use Rattle.jl_clear.specs.Clearing.{Clears, Handled, IsOfEntries}
 use Rattle.jl_clear.proofs.Paths.{entries_below}
 use Rattle.jl_clear.proofs.Folders.{function_place, function_place_long}

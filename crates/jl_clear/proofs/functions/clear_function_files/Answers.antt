@@ -1,8 +1,7 @@
 use Rattle.std.proofs.Common.{◌≡◌, refl, inl}
-use Rattle.jl_entry.specs.Names.{IsBelow}
+use Rattle.jl_entry.specs.Names.{IsBelow, IsCodeName}
 use Rattle.jl_rely.specs.Claims.{Anywhere}
 use Rattle.jl_clear.specs.declared.removing.Clear.TheVariants.{Cleared, Fault}
-use Rattle.jl_clear.specs.Taking.{IsCodeName}
 use Rattle.jl_clear.specs.Clearing.{HasCode, Handled, IsEmptied}
 use Rattle.jl_clear.proofs.Folders.{code_there, function_place}
 use Rattle.jl_clear.proofs.Listings.{emptied}

@@ -1,9 +1,8 @@
 use Rattle.std.proofs.Common.{◌≡◌, List, refl, subst, inl}
 use Rattle.jl_folder.specs.declared.listing.Name.{Name}
-use Rattle.jl_entry.specs.Names.{IsBelow}
+use Rattle.jl_entry.specs.Names.{IsBelow, IsKeyName}
 use Rattle.jl_rely.specs.Claims.{Anywhere}
 use Rattle.jl_clear.specs.declared.removing.Clear.TheVariants.{Cleared, Fault}
-use Rattle.jl_clear.specs.Taking.{IsKeyName}
 use Rattle.jl_clear.specs.Clearing.{Clears, HasAll, HasCode, Handled, IsOfEntries}
 use Rattle.jl_clear.proofs.Paths.{entries_below}
 use Rattle.jl_clear.proofs.Listings.{code_left}

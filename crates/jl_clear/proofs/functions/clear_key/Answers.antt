@@ -1,7 +1,7 @@
 use Rattle.std.proofs.Common.{◌≡◌, ◌∙◌, true≢false, sym, subst}
 use Rattle.jl_rely.specs.Claims.{Anywhere}
 use Rattle.jl_clear.specs.declared.removing.Clear.TheVariants.{Cleared, Fault, NoMemory}
-use Rattle.jl_clear.specs.Taking.{IsKeyName, IsEntryFolder}
+use Rattle.jl_entry.specs.Names.{IsKeyName, IsEntryFolder}
 use Rattle.jl_clear.specs.Clearing.{ClearsPart, IsOfEntries}
 use Rattle.jl_clear.proofs.Folders.{entry_in}
 use Rattle.jl_clear.proofs.Parts.{clears_none, clears_part}

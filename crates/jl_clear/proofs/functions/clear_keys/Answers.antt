@@ -3,7 +3,7 @@ use Rattle.std.proofs.Math.Seq.{take-suc}
 use Rattle.std.proofs.lemmas.List.{take_all}
 use Rattle.jl_rely.specs.Claims.{Anywhere}
 use Rattle.jl_clear.specs.declared.removing.Clear.TheVariants.{Cleared, Fault}
-use Rattle.jl_clear.specs.Taking.{IsKeyName}
+use Rattle.jl_entry.specs.Names.{IsKeyName}
 use Rattle.jl_clear.specs.Clearing.{ClearsPart, Handled, IsOfEntries}
 use Rattle.jl_clear.proofs.Parts.{clears_start, clears_more, clears_every, clears_stop}
 use Rattle.jl_clear.proofs.functions.clear_keys.Goals as goal

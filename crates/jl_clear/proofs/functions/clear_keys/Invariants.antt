@@ -1,7 +1,7 @@
 use Rattle.std.proofs.Common.{take}
 use Rattle.jl_text.specs.Paths.{PathView}
 use Rattle.jl_rely.specs.Claims.{Anywhere}
-use Rattle.jl_clear.specs.Taking.{IsFunctionFolder, IsKeyName}
+use Rattle.jl_entry.specs.Names.{IsFunctionFolder, IsKeyName}
 use Rattle.jl_clear.specs.Clearing.{Clears, Handled, IsOfEntries}
 use Rattle.jl_clear.proofs.functions.clear_keys.Given as goal
 

@@ -1,8 +1,7 @@
 use Rattle.std.proofs.Common.{◌≡◌, ◌∙◌, ◌∷◌, [], true≢false, sym, subst}
-use Rattle.jl_entry.specs.Names.{IsBelow}
+use Rattle.jl_entry.specs.Names.{IsBelow, IsFunctionFolder, IsNameOf}
 use Rattle.jl_rely.specs.Claims.{Anywhere}
 use Rattle.jl_clear.specs.declared.removing.Clear.TheVariants.{Cleared, Fault, NoMemory}
-use Rattle.jl_clear.specs.Taking.{IsFunctionFolder, IsNameOf}
 use Rattle.jl_clear.specs.Clearing.{ClearsPart}
 use Rattle.jl_clear.proofs.Paths.{below_more}
 use Rattle.jl_clear.proofs.Folders.{function_in}

@@ -1,9 +1,8 @@
 use Rattle.std.proofs.Common.{◌≡◌, List, refl, subst, inl}
 use Rattle.jl_folder.specs.declared.listing.Name.{Name}
-use Rattle.jl_entry.specs.Names.{IsBelow}
+use Rattle.jl_entry.specs.Names.{IsBelow, IsNameOf}
 use Rattle.jl_rely.specs.Claims.{Anywhere}
 use Rattle.jl_clear.specs.declared.removing.Clear.TheVariants.{Cleared, Fault}
-use Rattle.jl_clear.specs.Taking.{IsNameOf}
 use Rattle.jl_clear.specs.Clearing.{Clears, HasAll, Handled, IsEmptied}
 use Rattle.jl_clear.proofs.Folders.{module_names, name_there, module_place}
 use Rattle.jl_clear.proofs.Listings.{emptied}

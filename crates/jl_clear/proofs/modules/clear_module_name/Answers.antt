@@ -1,7 +1,8 @@
 use Rattle.std.proofs.Common.{◌≡◌, ◌∙◌, true≢false, sym, subst}
 use Rattle.jl_rely.specs.Claims.{Anywhere}
 use Rattle.jl_clear.specs.declared.removing.Clear.TheVariants.{Cleared, Fault, NoMemory}
-use Rattle.jl_clear.specs.Taking.{IsNameOf, IsModuleFolder, IsInside}
+use Rattle.jl_entry.specs.Names.{IsNameOf, IsModuleFolder}
+use Rattle.jl_clear.specs.Taking.{IsInside}
 use Rattle.jl_clear.specs.Clearing.{ClearsPart}
 use Rattle.jl_clear.proofs.Paths.{below_inside}
 use Rattle.jl_clear.proofs.Folders.{module_in}

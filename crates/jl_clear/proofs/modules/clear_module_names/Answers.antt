@@ -3,7 +3,8 @@ use Rattle.std.proofs.Math.Seq.{take-suc}
 use Rattle.std.proofs.lemmas.List.{take_all}
 use Rattle.jl_rely.specs.Claims.{Anywhere}
 use Rattle.jl_clear.specs.declared.removing.Clear.TheVariants.{Cleared, Fault}
-use Rattle.jl_clear.specs.Taking.{IsNameOf, IsInside}
+use Rattle.jl_entry.specs.Names.{IsNameOf}
+use Rattle.jl_clear.specs.Taking.{IsInside}
 use Rattle.jl_clear.specs.Clearing.{ClearsPart, Handled}
 use Rattle.jl_clear.proofs.Parts.{clears_start, clears_more, clears_every, clears_stop}
 use Rattle.jl_clear.proofs.modules.clear_module_names.Goals as goal

@@ -1,6 +1,7 @@
 use Rattle.std.proofs.Common.{take}
 use Rattle.jl_rely.specs.Claims.{Anywhere}
-use Rattle.jl_clear.specs.Taking.{IsNameOf, IsInside}
+use Rattle.jl_entry.specs.Names.{IsNameOf}
+use Rattle.jl_clear.specs.Taking.{IsInside}
 use Rattle.jl_clear.specs.Clearing.{Clears, Handled}
 use Rattle.jl_clear.proofs.modules.clear_module_names.Given as goal
 

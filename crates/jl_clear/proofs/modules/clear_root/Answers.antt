@@ -2,7 +2,8 @@ use Rattle.std.proofs.Common.{◌≡◌, List, refl, subst}
 use Rattle.jl_folder.specs.declared.listing.Name.{Name}
 use Rattle.jl_rely.specs.Claims.{Anywhere}
 use Rattle.jl_clear.specs.declared.removing.Clear.TheVariants.{Cleared, Fault, NoMemory}
-use Rattle.jl_clear.specs.Taking.{IsNameOf, IsInside}
+use Rattle.jl_entry.specs.Names.{IsNameOf}
+use Rattle.jl_clear.specs.Taking.{IsInside}
 use Rattle.jl_clear.specs.Clearing.{Clears, Handled}
 use Rattle.jl_clear.proofs.Listings.{clears_listed, clears_waits, clears_no_root, clears_root_names}
 use Rattle.jl_clear.proofs.modules.clear_root.Goals as goal

@@ -1,8 +1,7 @@
 use Rattle.std.proofs.Common.{◌≡◌, ◌∙◌, ◌++◌, ◌∷◌, [], sym, subst, true≢false}
 use Rattle.jl_text.specs.Paths.{PathView}
-use Rattle.jl_entry.specs.Names.{IsBelow}
+use Rattle.jl_entry.specs.Names.{IsBelow, IsNameOf}
 use Rattle.jl_rely.specs.Claims.{Anywhere}
-use Rattle.jl_clear.specs.Taking.{IsNameOf}
 use Rattle.jl_evict.specs.declared.walk.Walk.TheVariants as walk
 use Rattle.jl_evict.specs.Walks.{Adds}
 use Rattle.jl_evict.proofs.WalkLemmas.{adds_none, in_root, at_module, part_split}

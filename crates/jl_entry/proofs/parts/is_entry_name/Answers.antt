@@ -1,9 +1,8 @@
 use Rattle.std.proofs.Common.{refl, subst, sym}
 use Rattle.jl_entry.specs.declared.names.EntryFile.TheVariants.{Output, Metadata, Access}
-use Rattle.jl_entry.specs.Names.{entry_part}
-use Rattle.jl_clear.specs.Taking.{IsEntryName}
-use Rattle.jl_clear.proofs.NameLemmas.{entry_name_by}
-use Rattle.jl_clear.proofs.names.is_entry_name.Goals as goal
+use Rattle.jl_entry.specs.Names.{entry_part, IsEntryName}
+use Rattle.jl_entry.proofs.PartLemmas.{entry_name_by}
+use Rattle.jl_entry.proofs.parts.is_entry_name.Goals as goal
 
 pub returns-then-is_named : goal.returns-then-is_named
 unfolding entry_part

@@ -1,8 +1,8 @@
 use Rattle.std.proofs.Common.{Some, None, true≢false, sym}
 use Rattle.std.proofs.lemmas.Slice.Eq.{strip_prefix_is}
 use Rattle.std.proofs.lemmas.Bool.Decides.{Decides-eqb}
-use Rattle.jl_clear.proofs.NameLemmas.{named_rest, rest_named, named_front}
-use Rattle.jl_clear.proofs.names.is_named.Goals as goal
+use Rattle.jl_entry.proofs.PartLemmas.{named_rest, rest_named, named_front}
+use Rattle.jl_entry.proofs.parts.is_named.Goals as goal
 
 pub returns-in-Some : goal.returns-in-Some
 returns-in-Some c =

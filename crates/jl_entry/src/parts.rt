@@ -1,22 +1,23 @@
 // Which names stand in the folders of a cache.
-ghost use Rattle.std.specs.Prelude.{◌≡◌, ◌↔◌, ◌⊎◌, ℕ, List, [], IsTrue};
+ghost use Rattle.std.specs.Prelude.{◌≡◌, ◌↔◌, ◌⊎◌, [], IsTrue};
 ghost use Rattle.std.specs.List.{list_all};
-ghost use Rattle.jl_entry.specs.Names.{is_hex_byte, is_key, suffix};
-ghost use Rattle.jl_clear.specs.Taking.{IsEntryName, IsNamed, IsCodeName};
+ghost use Rattle.jl_entry.specs.Names.{is_hex_byte, is_key, IsSuffix, IsNamed, IsEntryName, IsCodeName};
+
+use jl_text::is_token;
 
 // Whether the bytes are `.tmp-` and a token.
 fn is_suffix(rest: &[u8]) -> bool
-    ensures { IsTrue result ↔ ((token : List ℕ) × (rest.now ≡ suffix token)) }
+    ensures { IsTrue result ↔ IsSuffix rest.now }
 {
     match rest.strip_prefix(b".tmp-") {
-        Some(_token) => true,
+        Some(token) => is_token(token),
         None => false,
     }
 }
 
 // Whether nothing is left, or the suffix of a temporary name.
 fn is_rest(rest: &[u8]) -> bool
-    ensures { IsTrue result ↔ ((rest.now ≡ []) ⊎ ((token : List ℕ) × (rest.now ≡ suffix token))) }
+    ensures { IsTrue result ↔ ((rest.now ≡ []) ⊎ IsSuffix rest.now) }
 {
     if rest.is_empty() {
         return true;
@@ -35,7 +36,7 @@ fn is_named(bytes: &[u8], name: &[u8]) -> bool
 }
 
 /// Whether a name is that of a file of an entry, or a temporary one of such a file.
-pub(crate) fn is_entry_name(part: &str) -> bool
+pub fn is_entry_name(part: &str) -> bool
     ensures { IsTrue result ↔ IsEntryName part.now }
 {
     let bytes = part.as_bytes();
@@ -49,7 +50,7 @@ pub(crate) fn is_entry_name(part: &str) -> bool
 }
 
 /// Whether a name is that of the file of a function's code, or a temporary one of it.
-pub(crate) fn is_code_name(part: &str) -> bool
+pub fn is_code_name(part: &str) -> bool
     ensures { IsTrue result ↔ IsCodeName part.now }
 {
     let bytes = part.as_bytes();

@@ -1,7 +1,6 @@
 use Rattle.std.proofs.Common.{subst, sym}
-use Rattle.jl_entry.specs.Names.{code_part}
-use Rattle.jl_clear.specs.Taking.{IsCodeName}
-use Rattle.jl_clear.proofs.names.is_code_name.Goals as goal
+use Rattle.jl_entry.specs.Names.{code_part, IsCodeName}
+use Rattle.jl_entry.proofs.parts.is_code_name.Goals as goal
 
 pub returns : goal.returns
 unfolding code_part
