@@ -1,6 +1,7 @@
 -- What bytes may stand under a final name, and which of them are true.
 use Rattle.std.specs.Prelude.{◌≡◌, ◌≤◌, ℕ, List, length, ⊤}
 use Rattle.hex.specs.Hex.{encode_lower}
+use Rattle.jl_text.specs.declared.limits.TheConstants.{MOST_ENTRY_BYTES}
 use Rattle.jl_value.specs.Tree.{Tree}
 use Rattle.jl_value.specs.Key.{key_of}
 use Rattle.jl_value.specs.Library.{Answer, value}
@@ -12,11 +13,11 @@ use Rattle.jl_entry.specs.declared.names.EntryFile.TheVariants.{Output, Metadata
 
 -- no text of the store is longer: a reader stops here
 abbrev pub most_bytes : ℕ
-most_bytes = 16777216
+most_bytes = MOST_ENTRY_BYTES
 
--- the bytes are a text of the file's format, and an output is an entry of arguments with its folder's key
+-- The bytes are a text of the file's format: of a code, whose line's number has 64 bits; of an entry of arguments with its folder's key; of a duration and a moment; of a moment.
 abbrev pub IsOfFormat : Final → List ℕ → Type 0
-IsOfFormat (code_of m f) bytes = (code : List ℕ) × (line : ℕ) × (1 ≤ line) × (bytes ≡ code_text code line)
+IsOfFormat (code_of m f) bytes = (code : List ℕ) × (line : ℕ) × (1 ≤ line) × (line ≤ 18446744073709551615) × (bytes ≡ code_text code line)
 IsOfFormat (entry_of Output m f k) bytes = (code : List ℕ) × (ps : Members) × (t : Tree) × (encode_lower (key_of ps) ≡ k) × IsEntryOf bytes code ps t
 IsOfFormat (entry_of Metadata m f k) bytes = (duration time : ℕ) × IsMetadata bytes duration time
 IsOfFormat (entry_of Access m f k) bytes = (moment : ℕ) × IsAccess bytes moment

@@ -6,9 +6,10 @@ ghost use Rattle.jl_folder.specs.Tables.{state_of};
 ghost use Rattle.jl_folder.specs.Trees.{empty_tree};
 ghost use Rattle.jl_folder.specs.declared.moves.Move.{Move};
 ghost use Rattle.jl_folder.specs.declared.moves.Place.{Place};
-ghost use Rattle.jl_entry.specs.Names.{IsStoreFolder, IsStoreName, IsBelow, IsOutside, root_of};
+ghost use Rattle.jl_entry.specs.Codes.{IsSameCode};
+ghost use Rattle.jl_entry.specs.Names.{code_of, IsStoreFolder, IsStoreName, IsBelow, IsOutside, root_of};
 ghost use Rattle.jl_rely.specs.Steps.{AllSteps, Throughout};
-ghost use Rattle.jl_protocol.specs.Whole.{Answers};
+ghost use Rattle.jl_protocol.specs.Whole.{Answers, IsWhole};
 ghost use Rattle.jl_protocol.specs.Proper.{IsProper, IsLawful, RenamesTrue, ProperThroughout, LawfulThroughout};
 ghost use Rattle.jl_protocol.specs.Tidy.{IsTidy, IsSound, KillLeaves};
 
@@ -57,4 +58,9 @@ pub fn calls_compose()
     ensures make_dir { (root p : PathView) (token : List ℕ) (s : State) → IsStoreFolder root p → IsProper root token s (Move.MakeDir p) }
     ensures remove { (root p : PathView) (token : List ℕ) (s : State) → IsStoreName root p → IsProper root token s (Move.Remove p) }
     ensures remove_dir { (root p : PathView) (token : List ℕ) (s : State) → IsStoreFolder root p → IsProper root token s (Move.RemoveDir p) }
+{}
+
+/// Whole bytes of a function's code are those of some code, to any reader of the file.
+pub fn whole_codes_are_read()
+    ensures { (m f bytes : List ℕ) → IsWhole (code_of m f) bytes → (code : List ℕ) × IsSameCode code bytes }
 {}

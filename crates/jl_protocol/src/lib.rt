@@ -3,4 +3,6 @@
 
 mod laws;
 
-pub use laws::{absent_roots_are_sound, calls_compose, moves_keep_stores, runs_compose};
+pub use laws::{
+    absent_roots_are_sound, calls_compose, moves_keep_stores, runs_compose, whole_codes_are_read,
+};

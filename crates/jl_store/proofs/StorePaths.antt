@@ -8,11 +8,10 @@ use Rattle.jl_folder.specs.declared.moves.Move.{Move}
 use Rattle.jl_folder.specs.declared.moves.Move.TheVariants.{MakeDir, Create, Append, Rename, Remove, RemoveDir}
 use Rattle.jl_folder.specs.State.{State}
 use Rattle.jl_entry.specs.Codes.{code_text, line_words}
-use Rattle.jl_entry.specs.Names.{code_of, IsStoreFolder, IsStoreName, IsOnWay, IsFolderParts, is_rooted, is_key}
+use Rattle.jl_entry.specs.Names.{code_of, IsStoreFolder, IsStoreName, IsOnWay, IsFolderParts, is_rooted, is_key, IsEntryName, IsFunctionFolder}
 use Rattle.jl_protocol.specs.Whole.{IsWhole}
 use Rattle.jl_protocol.proofs.LawfulCalls.{always_make_dir, always_remove, always_remove_dir}
 use Rattle.jl_clear.proofs.Folders.{entry_in, entry_name, entry_place}
-use Rattle.jl_clear.specs.Taking.{IsEntryName, IsFunctionFolder}
 use Rattle.jl_store.specs.Doing.{IsPrefix, IsMaking, IsEmptying, IsClearing}
 use Rattle.jl_store.specs.Kinds.{RenamesThis, PutsThis}
 
@@ -86,5 +85,5 @@ code_whole m f code line first small short =
     let few = length-decimal-le 20 line (omega arith) (omega arith) small in
     let words : length line_words ≡ 14 = refl in (
       omega (arith, few, words, short, length-append line_words (decimal line ++ 10 ∷ (code ++ 10 ∷ [])), length-append (decimal line) (10 ∷ (code ++ 10 ∷ [])), length-append code (10 ∷ [])),
-      (code, line, first, refl),
+      (code, line, first, omega (arith, small), refl),
     )
