@@ -63,6 +63,7 @@ fn clear_entry_listed<F: Folder>(
 
 /// Takes away the files of an entry's folder, and the folder. What is gone is cleared, and a name that isn't of the store stays.
 pub fn clear_entry<F: Folder>(alloc: Global, folder: &mut F, entry: &Path) -> Clear
+    requires { (root : PathView) × IsEntryFolder root entry.now }
     ensures { (root : PathView) → IsEntryFolder root entry.now →
         Clears F.token F.told F.history F.opens F.faults root Anywhere (IsBelow entry.now) (IsBelow entry.now) (result ≡ Clear.Cleared) (result ≡ Clear.Fault) folder.old folder.new }
 {

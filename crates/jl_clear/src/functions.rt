@@ -13,7 +13,8 @@ use std::alloc::Global;
 
 // Takes away an entry of a function's folder, if this is the name of one.
 fn clear_key<F: Folder>(alloc: Global, folder: &mut F, function: &Path, part: &str) -> Clear
-    requires { IsTrue (is_part part.now) }
+    requires part { IsTrue (is_part part.now) }
+    requires of_function { (root : PathView) × IsFunctionFolder root function.now }
     ensures { (root : PathView) → IsFunctionFolder root function.now →
         Clears F.token F.told F.history F.opens F.faults root Anywhere (IsOfEntries function.now) (ClearsPart IsKeyName function.now part.now) (result ≡ Clear.Cleared) (result ≡ Clear.Fault) folder.old folder.new }
 {
@@ -27,7 +28,8 @@ fn clear_key<F: Folder>(alloc: Global, folder: &mut F, function: &Path, part: &s
 }
 
 fn clear_keys<F: Folder>(alloc: Global, folder: &mut F, function: &Path, names: &[Name]) -> Clear
-    requires { All (λ n. IsTrue (is_part n.part)) names.now }
+    requires parts { All (λ n. IsTrue (is_part n.part)) names.now }
+    requires of_function { (root : PathView) × IsFunctionFolder root function.now }
     ensures { (root : PathView) → IsFunctionFolder root function.now →
         Clears F.token F.told F.history F.opens F.faults root Anywhere (IsOfEntries function.now) (Handled IsKeyName function.now names.now) (result ≡ Clear.Cleared) (result ≡ Clear.Fault) folder.old folder.new }
 {
@@ -42,6 +44,7 @@ fn clear_keys<F: Folder>(alloc: Global, folder: &mut F, function: &Path, names: 
 
 /// Takes away each entry of a function's folder, and nothing else. A folder that is absent is cleared.
 pub fn clear_entries<F: Folder>(alloc: Global, folder: &mut F, function: &Path) -> Clear
+    requires { (root : PathView) × IsFunctionFolder root function.now }
     ensures { (root : PathView) → IsFunctionFolder root function.now →
         Clears F.token F.told F.history F.opens F.faults root Anywhere (IsOfEntries function.now) (IsOfEntries function.now) (result ≡ Clear.Cleared) (result ≡ Clear.Fault) folder.old folder.new }
 {
@@ -111,7 +114,8 @@ fn clear_function_listed<F: Folder>(
     function: &Path,
     names: &NameList,
 ) -> Clear
-    requires { All (λ n. IsTrue (is_part n.part)) names.now }
+    requires parts { All (λ n. IsTrue (is_part n.part)) names.now }
+    requires of_function { (root : PathView) × IsFunctionFolder root function.now }
     ensures { (root : PathView) → IsFunctionFolder root function.now →
         Clears F.token F.told F.history F.opens F.faults root (HasAll function.now names.now) (IsBelow function.now) (IsBelow function.now) (result ≡ Clear.Cleared) (result ≡ Clear.Fault) folder.old folder.new }
 {
@@ -127,6 +131,7 @@ pub(crate) fn clear_function_folder<F: Folder>(
     folder: &mut F,
     function: &Path,
 ) -> Clear
+    requires { (root : PathView) × IsFunctionFolder root function.now }
     ensures { (root : PathView) → IsFunctionFolder root function.now →
         Clears F.token F.told F.history F.opens F.faults root Anywhere (IsBelow function.now) (IsBelow function.now) (result ≡ Clear.Cleared) (result ≡ Clear.Fault) folder.old folder.new }
 {

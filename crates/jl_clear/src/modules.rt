@@ -14,7 +14,8 @@ use std::alloc::Global;
 
 // Takes away a function's folder of a module's folder, if this is the name of one.
 fn clear_function_name<F: Folder>(alloc: Global, folder: &mut F, module: &Path, part: &str) -> Clear
-    requires { IsTrue (is_part part.now) }
+    requires part { IsTrue (is_part part.now) }
+    requires of_module { (root : PathView) × IsModuleFolder root «module».now }
     ensures { (root : PathView) → IsModuleFolder root «module».now →
         Clears F.token F.told F.history F.opens F.faults root Anywhere (IsBelow «module».now) (ClearsPart IsNameOf «module».now part.now) (result ≡ Clear.Cleared) (result ≡ Clear.Fault) folder.old folder.new }
 {
@@ -33,7 +34,8 @@ fn clear_function_names<F: Folder>(
     module: &Path,
     names: &[Name],
 ) -> Clear
-    requires { All (λ n. IsTrue (is_part n.part)) names.now }
+    requires parts { All (λ n. IsTrue (is_part n.part)) names.now }
+    requires of_module { (root : PathView) × IsModuleFolder root «module».now }
     ensures { (root : PathView) → IsModuleFolder root «module».now →
         Clears F.token F.told F.history F.opens F.faults root Anywhere (IsBelow «module».now) (Handled IsNameOf «module».now names.now) (result ≡ Clear.Cleared) (result ≡ Clear.Fault) folder.old folder.new }
 {
@@ -53,7 +55,8 @@ fn clear_module_listed<F: Folder>(
     module: &Path,
     names: &NameList,
 ) -> Clear
-    requires { All (λ n. IsTrue (is_part n.part)) names.now }
+    requires parts { All (λ n. IsTrue (is_part n.part)) names.now }
+    requires of_module { (root : PathView) × IsModuleFolder root «module».now }
     ensures { (root : PathView) → IsModuleFolder root «module».now →
         Clears F.token F.told F.history F.opens F.faults root (HasAll «module».now names.now) (IsBelow «module».now) (IsBelow «module».now) (result ≡ Clear.Cleared) (result ≡ Clear.Fault) folder.old folder.new }
 {
@@ -65,6 +68,7 @@ fn clear_module_listed<F: Folder>(
 
 /// Takes away the functions' folders of a module's folder, and the folder.
 pub(crate) fn clear_module_folder<F: Folder>(alloc: Global, folder: &mut F, module: &Path) -> Clear
+    requires { (root : PathView) × IsModuleFolder root «module».now }
     ensures { (root : PathView) → IsModuleFolder root «module».now →
         Clears F.token F.told F.history F.opens F.faults root Anywhere (IsBelow «module».now) (IsBelow «module».now) (result ≡ Clear.Cleared) (result ≡ Clear.Fault) folder.old folder.new }
 {

@@ -8,6 +8,10 @@ use Rattle.jl_clear.proofs.Parts.{clears_none}
 use Rattle.jl_clear.proofs.Claims.{claims_faults, claims_called, claims_lawful, claims_alone}
 use Rattle.jl_clear.proofs.clear.clear_function.Goals as goal
 
+pub clear_function_folder-requires : goal.clear_function_folder-requires
+clear_function_folder-requires g c =
+    (root_of c.args.location.now, (c.args.«module».now, c.args.name.now, c.requires.module_name, c.requires.function_name, c.in-Ok.ensures))
+
 pub returns-in_default-clause-called : goal.returns-in_default-clause-called
 returns-in_default-clause-called g c = claims_called g.F.Folder.token g.F.Folder.told g.F.Folder.history g.F.Folder.opens g.F.Folder.faults (root_of c.args.location.now) (IsBelow (below (root_of c.args.location.now) (c.args.«module».now ∷ c.args.name.now ∷ []))) (NoMemory ≡ Cleared) (NoMemory ≡ Fault) c.args.folder.now c.args.folder.now (clears_none g.F.Folder.token g.F.Folder.told g.F.Folder.history g.F.Folder.opens g.F.Folder.faults (root_of c.args.location.now) Anywhere (IsBelow (below (root_of c.args.location.now) (c.args.«module».now ∷ c.args.name.now ∷ []))) (IsBelow (below (root_of c.args.location.now) (c.args.«module».now ∷ c.args.name.now ∷ []))) (NoMemory ≡ Cleared) (NoMemory ≡ Fault) c.args.folder.now (λ f. cc) (λ done. cc))
 

@@ -7,6 +7,12 @@ use Rattle.jl_clear.proofs.Folders.{entry_in}
 use Rattle.jl_clear.proofs.Parts.{clears_none, clears_part}
 use Rattle.jl_clear.proofs.functions.clear_key.Goals as goal
 
+pub clear_entry-requires : goal.clear_entry-requires
+clear_entry-requires g c =
+    let (root, of) = c.requires.of_function in
+    let is : IsKeyName c.args.part.now = sym c.is_key_name.ensures ∙ c.if-not-is_key_name.false in
+    (root, subst (IsEntryFolder root) (sym c.in-Ok.ensures) (entry_in root c.args.function.now c.args.part.now of is))
+
 pub returns-then-not-is_key_name : goal.returns-then-not-is_key_name
 returns-then-not-is_key_name g c = λ root of.
     clears_none g.F.Folder.token g.F.Folder.told g.F.Folder.history g.F.Folder.opens g.F.Folder.faults root Anywhere (IsOfEntries c.args.function.now) (ClearsPart IsKeyName c.args.function.now c.args.part.now) (Cleared ≡ Cleared) (Cleared ≡ Fault) c.args.folder.now (λ f. cc)

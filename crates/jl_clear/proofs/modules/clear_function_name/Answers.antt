@@ -8,6 +8,12 @@ use Rattle.jl_clear.proofs.Folders.{function_in}
 use Rattle.jl_clear.proofs.Parts.{clears_none, clears_part}
 use Rattle.jl_clear.proofs.modules.clear_function_name.Goals as goal
 
+pub clear_function_folder-requires : goal.clear_function_folder-requires
+clear_function_folder-requires g c =
+    let (root, of) = c.requires.of_module in
+    let is : IsNameOf c.args.part.now = sym c.is_name.ensures.name ∙ c.if-not-is_name.false in
+    (root, subst (IsFunctionFolder root) (sym c.in-Ok.ensures) (function_in root c.args.«module».now c.args.part.now of is))
+
 pub returns-then-not-is_name : goal.returns-then-not-is_name
 returns-then-not-is_name g c = λ root of.
     clears_none g.F.Folder.token g.F.Folder.told g.F.Folder.history g.F.Folder.opens g.F.Folder.faults root Anywhere (IsBelow c.args.«module».now) (ClearsPart IsNameOf c.args.«module».now c.args.part.now) (Cleared ≡ Cleared) (Cleared ≡ Fault) c.args.folder.now (λ f. cc)

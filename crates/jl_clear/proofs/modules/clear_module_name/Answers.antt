@@ -9,6 +9,11 @@ use Rattle.jl_clear.proofs.Folders.{module_in}
 use Rattle.jl_clear.proofs.Parts.{clears_none, clears_part}
 use Rattle.jl_clear.proofs.modules.clear_module_name.Goals as goal
 
+pub clear_module_folder-requires : goal.clear_module_folder-requires
+clear_module_folder-requires g c =
+    let is : IsNameOf c.args.part.now = sym c.is_name.ensures.name ∙ c.if-not-is_name.false in
+    (c.args.root.now, subst (IsModuleFolder c.args.root.now) (sym c.in-Ok.ensures) (module_in c.args.root.now c.args.part.now is))
+
 pub returns-then-not-is_name : goal.returns-then-not-is_name
 returns-then-not-is_name g c = let root = c.args.root.now in
     clears_none g.F.Folder.token g.F.Folder.told g.F.Folder.history g.F.Folder.opens g.F.Folder.faults root Anywhere (IsInside root) (ClearsPart IsNameOf c.args.root.now c.args.part.now) (Cleared ≡ Cleared) (Cleared ≡ Fault) c.args.folder.now (λ f. cc)

@@ -10,6 +10,12 @@ use Rattle.jl_evict.proofs.Naming.{item_parts, parts_good}
 use Rattle.jl_evict.proofs.ReduceLemmas.{item_folder}
 use Rattle.jl_evict.proofs.reducing.clear_one.Goals as goal
 
+pub clear_entry-requires : goal.clear_entry-requires
+clear_entry-requires g c =
+    let root = c.args.root.now in
+    let folder : c.in-Ok.entry ≡ below root (path_of c.args.item.now.path) = c.in-Ok.ensures ∙ ap (λ (q : PathView). below root q) (c.parts.ensures.same ∙ c.in-Some.ensures) in
+    (root, item_folder root c.in-Ok.entry c.args.item.now.path c.requires folder)
+
 pub join_all-requires : goal.join_all-requires
 join_all-requires g c = λ p among.
     let of = c.requires in
