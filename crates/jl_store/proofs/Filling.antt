@@ -16,7 +16,7 @@ use Rattle.jl_rely.proofs.Composed.{IsOwnTurn, goes_call, own_still, own_step, t
 use Rattle.jl_protocol.specs.Proper.{IsProper}
 use Rattle.jl_protocol.specs.Owned.{IsOwnFile}
 use Rattle.jl_protocol.proofs.Owning.{own_stable, appends_own, append_proper}
-use Rattle.jl_store.specs.Kinds.{IsAppend}
+use Rattle.jl_store.specs.Kinds.{IsPiece, IsAppend}
 use Rattle.jl_store.specs.Publishing.{CallsOn, IsDraft}
 use Rattle.jl_store.proofs.KindFacts.{is_append}
 use Rattle.jl_store.proofs.Drafts.{appended_draft}
@@ -34,15 +34,19 @@ module _ (token : List ℕ) (opens : Opens) (number : ℕ) (file : OpenFile) (is
   moves_here k own part =
       part.move_is ∙ ap (λ (f : OpenFile). Some (Append f.node (take k piece))) (let e : Some part.file ≡ Some file = sym part.was_open ∙ is in let same : part.file ≡ file = cc in same)
 
-  pub append_called : (k : ℕ) → Call token old new (AppendsBytes number piece opens (appended.Wrote k)) → CallsOn token temp IsAppend (λ root. IsOwnFile token temp n start) (λ root. IsOwnFile token temp n (start ++ take k piece)) old new
-  append_called k call root x is_temp =
+  -- a part of a piece is one
+  part_short : IsPiece piece → (k : ℕ) → IsPiece (take k piece)
+  part_short short k = omega (arith, short, length-take k piece)
+
+  pub append_called : IsPiece piece → (k : ℕ) → Call token old new (AppendsBytes number piece opens (appended.Wrote k)) → CallsOn token temp IsAppend (λ root. IsOwnFile token temp n start) (λ root. IsOwnFile token temp n (start ++ take k piece)) old new
+  append_called short k call root x is_temp =
       turn_called (IsProper root) (IsProper root) token IsAppend (IsOwnFile token temp n start) (IsOwnFile token temp n (start ++ take k piece)) (AppendsBytes number piece opens (appended.Wrote k)) old new (own_stable root token x temp is_temp n start) call
       (λ s own gives.
-      own_step (IsProper root) (IsProper root) token IsAppend (IsOwnFile token temp n start) (IsOwnFile token temp n (start ++ take k piece)) s own (Append n (take k piece)) (moves_here k own gives) (is_append n (take k piece))
+      own_step (IsProper root) (IsProper root) token IsAppend (IsOwnFile token temp n start) (IsOwnFile token temp n (start ++ take k piece)) s own (Append n (take k piece)) (moves_here k own gives) (is_append n (take k piece) (part_short short k))
       (λ mine may. (append_proper root token x temp is_temp n start s (take k piece) mine, λ given. appends_own root token x temp is_temp n start s (take k piece) mine)))
 
-  pub append_stops : (r : Appended) → Call token old new (AppendsBytes number piece opens r) → CallsOn token temp IsAppend (λ root. IsOwnFile token temp n start) (λ root. Anywhere) old new
-  append_stops r call root x is_temp =
+  pub append_stops : IsPiece piece → (r : Appended) → Call token old new (AppendsBytes number piece opens r) → CallsOn token temp IsAppend (λ root. IsOwnFile token temp n start) (λ root. Anywhere) old new
+  append_stops short r call root x is_temp =
       turn_called (IsProper root) (IsProper root) token IsAppend (IsOwnFile token temp n start) Anywhere (AppendsBytes number piece opens r) old new (own_stable root token x temp is_temp n start) call (owns r)
     where
       still : (s : State) (own : Option Move) → own ≡ None → AppendTurn token temp root (IsOwnFile token temp n start) Anywhere s own
@@ -50,7 +54,7 @@ module _ (token : List ℕ) (opens : Opens) (number : ℕ) (file : OpenFile) (is
 
       adds : (s : State) (own : Option Move) (k : ℕ) → AppendsPart number piece k opens own → AppendTurn token temp root (IsOwnFile token temp n start) Anywhere s own
       adds s own k part =
-          own_step (IsProper root) (IsProper root) token IsAppend (IsOwnFile token temp n start) Anywhere s own (Append n (take k piece)) (moves_here k own part) (is_append n (take k piece))
+          own_step (IsProper root) (IsProper root) token IsAppend (IsOwnFile token temp n start) Anywhere s own (Append n (take k piece)) (moves_here k own part) (is_append n (take k piece) (part_short short k))
           (λ mine may. (append_proper root token x temp is_temp n start s (take k piece) mine, λ given. tt))
 
       owns : (r' : Appended) (s : State) (own : Option Move) → AppendsBytes number piece opens r' s own → AppendTurn token temp root (IsOwnFile token temp n start) Anywhere s own
@@ -105,10 +109,11 @@ module _ {D : Type 0} (token : D → List ℕ) (told : D → Type 0) (history : 
         subst (λ k. Call k (history here) (history next) (AppendsBytes number piece (opens old) r)) so_far.same_token
         (subst (λ o. Call (token here) (history here) (history next) (AppendsBytes number piece o r)) so_far.same_opens (call (so_far.still_told t)))
 
-    pub going_on : (next : D) (m k : ℕ) → k ≤ length (take m (drop at bytes)) → (told here → told next) → token next ≡ token here → opens next ≡ opens here → faults here ≤ faults next →
+    pub going_on : (next : D) (m k : ℕ) → m ≤ 65536 → k ≤ length (take m (drop at bytes)) → (told here → told next) → token next ≡ token here → opens next ≡ opens here → faults here ≤ faults next →
         (told here → Call (token here) (history here) (history next) (AppendsBytes number (take m (drop at bytes)) (opens here) (appended.Wrote k))) → IsGoing token told history opens faults old next number bytes (at + k)
-    going_on next m k small on same_token same_opens later call =
+    going_on next m k few small on same_token same_opens later call =
         let piece = take m (drop at bytes) in
+        let short : IsPiece piece = omega (arith, few, length-take m (drop at bytes)) in
         let whole : (start : List ℕ) → (start ++ take at bytes) ++ take k piece ≡ start ++ take (at + k) bytes =
         λ start. append_assoc start (take at bytes) (take k piece) ∙ ap (λ (l : List ℕ). start ++ l) (take_piece bytes at m k small) in
         record {
@@ -123,7 +128,7 @@ module _ {D : Type 0} (token : D → List ℕ) (told : D → Type 0) (history : 
               calls_then (token old) temp IsAppend (λ root. IsOwnFile (token old) temp file.node start) (λ root. IsOwnFile (token old) temp file.node done) (λ root. IsOwnFile (token old) temp file.node (start ++ take (at + k) bytes)) (history old) (history here) (history next)
               (so_far.called t file is temp start)
               (subst (λ (l : List ℕ). CallsOn (token old) temp IsAppend (λ root. IsOwnFile (token old) temp file.node done) (λ root. IsOwnFile (token old) temp file.node l) (history here) (history next)) (whole start)
-              (append_called (token old) (opens old) number file is temp done piece (history here) (history next) k (call_here next piece (appended.Wrote k) call t)));
+              (append_called (token old) (opens old) number file is temp done piece (history here) (history next) short k (call_here next piece (appended.Wrote k) call t)));
           alone = λ t file is temp start before lone draft.
               let done = start ++ take at bytes in
               let parts = lone_parts (token old) (history old) (history here) (history next) (so_far.goes t) (goes_call (token here) (history here) (history next) (AppendsBytes number piece (opens here) (appended.Wrote k)) (call (so_far.still_told t))) lone in
@@ -131,12 +136,12 @@ module _ {D : Type 0} (token : D → List ℕ) (told : D → Type 0) (history : 
               (append_alone (token old) (opens old) number file is temp done piece (history here) (history next) k before (call_here next piece (appended.Wrote k) call t) parts.1 (so_far.alone t file is temp start before parts.0 draft));
         }
 
-    pub going_stops : (next : D) (piece : List ℕ) (r : Appended) → (told here → Call (token here) (history here) (history next) (AppendsBytes number piece (opens here) r)) →
+    pub going_stops : (next : D) (piece : List ℕ) → IsPiece piece → (r : Appended) → (told here → Call (token here) (history here) (history next) (AppendsBytes number piece (opens here) r)) →
         told old → (file : OpenFile) → opens old number ≡ Some file → (temp : PathView) (start : List ℕ) → CallsOn (token old) temp IsAppend (λ root. IsOwnFile (token old) temp file.node start) (λ root. Anywhere) (history old) (history next)
-    going_stops next piece r call t file is temp start =
+    going_stops next piece short r call t file is temp start =
         let done = start ++ take at bytes in
         calls_then (token old) temp IsAppend (λ root. IsOwnFile (token old) temp file.node start) (λ root. IsOwnFile (token old) temp file.node done) (λ root. Anywhere) (history old) (history here) (history next)
-        (so_far.called t file is temp start) (append_stops (token old) (opens old) number file is temp done piece (history here) (history next) r (call_here next piece r call t))
+        (so_far.called t file is temp start) (append_stops (token old) (opens old) number file is temp done piece (history here) (history next) short r (call_here next piece r call t))
 
     pub going_goes : (next : D) (piece : List ℕ) (r : Appended) → (told here → Call (token here) (history here) (history next) (AppendsBytes number piece (opens here) r)) → told old → GoesOn (history old) (history next)
     going_goes next piece r call t =

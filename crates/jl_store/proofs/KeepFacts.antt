@@ -1,4 +1,6 @@
 -- One file of an entry after another.
+use Rattle.jl_text.specs.Texts.{is_token}
+use Rattle.std.specs.Prelude.{IsTrue}
 use Rattle.std.proofs.Common.{◌≡◌, ◌≢◌, ◌⊎◌, inl, inr, ⊎_elim, ℕ, Bool, true, false, not, ◌&&◌, List, [], ◌∷◌, ◌++◌, Option, None, Some, IsSome, refl, sym, ap, subst, ◌∙◌, append_assoc}
 use Rattle.jl_text.specs.Paths.{PathView, is_fixed, parent}
 use Rattle.jl_folder.specs.declared.moves.Place.{Place}
@@ -35,7 +37,7 @@ for_keeping : (e : Entry) (token : List ℕ) (file : EntryFile) (m : Move) → I
 unfolding IsFor IsKeeping
 for_keeping e token file (MakeDir p) is = absurd is
 for_keeping e token file (Create p n) is = (file, is)
-for_keeping e token file (Append n bytes) is = tt
+for_keeping e token file (Append n bytes) is = is
 for_keeping e token file (Rename p q) is = (file, is.0, is.1)
 for_keeping e token file (Remove p) is = (file, is)
 for_keeping e token file (RemoveDir p) is = is
@@ -242,9 +244,9 @@ entry_has e token text s t u ok made files = record {
 }
 
 -- in a tidy state, where the entry's folder is there, a file is ready
-pub touch_ready : (e : Entry) (token : List ℕ) → IsNamed e → (file : EntryFile) (s : State) → IsReadyToTouch e s → IsReadyFor e token file s
-touch_ready e token named file s ready = record {
+pub touch_ready : (e : Entry) (token : List ℕ) → IsNamed e → IsTrue (is_token token) → (file : EntryFile) (s : State) → IsReadyToTouch e s → IsReadyFor e token file s
+touch_ready e token named ok file s ready = record {
   home = ready.1;
   last_free = final_no_folder e.root (file_of e file) (last_of e file) s (final_of e named file) ready.0;
-  temp_free = temp_no_folder e.root (file_of e file) token (temp_of e token file) s (temp_is e named token file) ready.0;
+  temp_free = temp_no_folder e.root (file_of e file) token (temp_of e token file) s (temp_is e named token ok file) ready.0;
 }

@@ -8,7 +8,7 @@ use Rattle.jl_rely.specs.Claims.{Called}
 use Rattle.jl_rely.proofs.Touched.{IsApart}
 use Rattle.jl_rely.proofs.Composed.{called_kinds}
 use Rattle.jl_protocol.specs.Proper.{IsProper}
-use Rattle.jl_store.specs.Kinds.{IsAppend, IsOnName, IsFor, RenamesThis, PutsThis}
+use Rattle.jl_store.specs.Kinds.{IsPiece, IsAppend, IsOnName, IsFor, RenamesThis, PutsThis}
 
 pub append_apart : (x : PathView) → IsApart IsAppend x
 unfolding IsAppend
@@ -32,7 +32,7 @@ pub append_on_name : (name : PathView) (m : Move) → IsAppend m → IsOnName na
 unfolding IsAppend IsOnName
 append_on_name name (MakeDir p) is = is
 append_on_name name (Create p n) is = absurd is
-append_on_name name (Append n bytes) is = tt
+append_on_name name (Append n bytes) is = is
 append_on_name name (Rename p q) is = is
 append_on_name name (Remove p) is = absurd is
 append_on_name name (RemoveDir p) is = is
@@ -69,9 +69,9 @@ pub on_remove : (name : PathView) → IsOnName name (Remove name)
 unfolding IsOnName
 on_remove name = refl
 
-pub is_append : (n : ℕ) (bytes : List ℕ) → IsAppend (Append n bytes)
+pub is_append : (n : ℕ) (bytes : List ℕ) → IsPiece bytes → IsAppend (Append n bytes)
 unfolding IsAppend
-is_append n bytes = tt
+is_append n bytes short = short
 
 pub for_rename : (last temp : PathView) → IsFor last temp (Rename temp last)
 unfolding IsFor

@@ -1,11 +1,12 @@
 -- The temporary and the final name stand in one folder.
-use Rattle.std.proofs.Common.{true, ◌≡◌, ◌≢◌, ℕ, suc, ◌+◌, ◌-◌, List, [], ◌∷◌, ◌++◌, false, not, ◌&&◌, nat_eq, length, take, sym, ap, ◌∙◌, arith, append_assoc, length-take, length-append}
+use Rattle.jl_entry.proofs.NameFacts.{final_not_temp}
+use Rattle.std.proofs.Common.{true, ◌≡◌, ◌≢◌, ℕ, suc, ◌+◌, ◌-◌, List, [], ◌∷◌, ◌++◌, false, not, ◌&&◌, nat_eq, length, take, sym, ap, ◌∙◌, arith, append_assoc, length-take, length-append, subst}
 use Rattle.jl_text.specs.Paths.{PathView, is_fixed, parent}
 use Rattle.jl_folder.specs.State.{State, is_folder, has_parent}
 use Rattle.jl_entry.specs.Names.{Final, code_of, entry_of, IsFinal, IsTemp, code_part, entry_part, suffix}
 use Rattle.jl_rely.proofs.Effects.{number_apart}
 use Rattle.jl_protocol.specs.Tidy.{IsTidy}
-use Rattle.jl_store.specs.Publishing.{IsReady}
+use Rattle.jl_store.specs.Publishing.{IsReady, IsOfFile}
 use Rattle.jl_clear.proofs.Paths.{parent_in}
 use Rattle.jl_clear.proofs.Folders.{final_no_folder, temp_no_folder}
 
@@ -50,6 +51,10 @@ beside root (entry_of w m f k) token last temp is_temp final = record {
   temp_free = ap is_fixed is_temp.is ∙ free_of_two root m f (k ∷ (entry_part w ++ suffix token) ∷ []);
   last_free = ap is_fixed final.is ∙ free_of_two root m f (k ∷ entry_part w ∷ []);
 }
+
+-- the two are apart
+pub names_apart : (token : List ℕ) (last temp : PathView) (bytes : List ℕ) → IsOfFile token last temp bytes → temp ≢ last
+names_apart token last temp bytes (root, x, is_temp, final, whole) same = final_not_temp root x x token last final (subst (IsTemp root x token) same is_temp)
 
 -- so both have a parent, or neither has
 pub one_parent : (last temp : PathView) (s : State) → Beside last temp → has_parent s temp ≡ has_parent s last

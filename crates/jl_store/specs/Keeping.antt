@@ -1,6 +1,7 @@
 -- What keeping an answer does, whatever others do.
 use Rattle.std.specs.Prelude.{◌≡◌, ◌⊎◌, ◌≤◌, ℕ, true, false, List, [], ◌∷◌, ◌++◌, None, Some, length, ⊤}
 use Rattle.jl_text.specs.Paths.{PathView}
+use Rattle.jl_text.specs.declared.limits.TheConstants.{MOST_TEXT_BYTES}
 use Rattle.jl_folder.specs.declared.moves.Move.{Move}
 use Rattle.jl_folder.specs.declared.moves.Move.TheVariants.{MakeDir, Create, Append, Rename, Remove, RemoveDir}
 use Rattle.jl_folder.specs.State.{State, Event, Trace, History, place_at, is_folder, bytes_at, now, since}
@@ -18,7 +19,7 @@ use Rattle.jl_rely.specs.Touches.{TouchedByOther}
 use Rattle.jl_protocol.specs.Proper.{IsProper}
 use Rattle.jl_protocol.specs.Tidy.{NodeHas, IsTidy}
 use Rattle.jl_clear.specs.Taking.{IsBeside}
-use Rattle.jl_store.specs.Kinds.{IsFor, PutsThis, UsesNames}
+use Rattle.jl_store.specs.Kinds.{IsPiece, IsFor, PutsThis, UsesNames}
 use Rattle.jl_folder.specs.declared.folder.MadeDir.{MadeDir}
 use Rattle.jl_folder.specs.declared.folder.MadeDir.TheVariants as made_dir
 use Rattle.hex.specs.Hex.{encode_lower}
@@ -64,19 +65,19 @@ texts code ps t duration moment Access = access_text moment
 
 -- within the limits of the program
 pub record IsKeepable (code : List ℕ) (ps : Members) (t : Tree) : Type 0 where
-  pub code_short : length code ≤ 1048576
-  pub args_short : length (text_of (args_tree ps)) ≤ 1048576
+  pub code_short : length code ≤ MOST_TEXT_BYTES
+  pub args_short : length (text_of (args_tree ps)) ≤ MOST_TEXT_BYTES
   pub args_shallow : nesting (args_tree ps) ≤ 64
-  pub value_short : length (text_of t) ≤ 1048576
+  pub value_short : length (text_of t) ≤ MOST_TEXT_BYTES
   pub value_shallow : nesting t ≤ 64
 
 -- ---- the moves
 
--- makes the entry's folder, makes and removes the temporary names of its files, appends, and renames these to the final names
+-- makes the entry's folder, makes and removes the temporary names of its files, appends pieces, and renames these to the final names
 unfoldable pub IsKeeping : Entry → List ℕ → Move → Type 0
 IsKeeping e token (MakeDir p) = p ≡ entry_path e
 IsKeeping e token (Create p n) = (file : EntryFile) × (p ≡ temp_of e token file)
-IsKeeping e token (Append n bytes) = ⊤
+IsKeeping e token (Append n bytes) = IsPiece bytes
 IsKeeping e token (Rename p q) = (file : EntryFile) × (p ≡ temp_of e token file) × (q ≡ last_of e file)
 IsKeeping e token (Remove p) = (file : EntryFile) × (p ≡ temp_of e token file)
 IsKeeping e token (RemoveDir p) = ⊥

@@ -1,6 +1,7 @@
 -- Which moves a call makes, and which names it uses.
-use Rattle.std.specs.Prelude.{◌≡◌, ◌⊎◌, ℕ, List, ⊤}
+use Rattle.std.specs.Prelude.{◌≡◌, ◌⊎◌, ◌≤◌, ℕ, List, length, ⊤}
 use Rattle.jl_text.specs.Paths.{PathView, parent}
+use Rattle.jl_text.specs.declared.limits.TheConstants.{PIECE_BYTES}
 use Rattle.jl_folder.specs.declared.moves.Move.{Move}
 use Rattle.jl_folder.specs.declared.moves.Move.TheVariants.{MakeDir, Create, Append, Rename, Remove, RemoveDir}
 use Rattle.jl_folder.specs.State.{State}
@@ -8,20 +9,24 @@ use Rattle.jl_rely.specs.Steps.{StepFact}
 use Rattle.jl_protocol.specs.Tidy.{NodeHas}
 use Rattle.jl_protocol.specs.Proper.{IsProper}
 
--- appends
+-- bytes that one append may write: no more than a piece
+abbrev pub IsPiece : List ℕ → Type 0
+IsPiece bytes = length bytes ≤ PIECE_BYTES
+
+-- appends a piece
 unfoldable pub IsAppend : Move → Type 0
 IsAppend (MakeDir p) = ⊥
 IsAppend (Create p n) = ⊥
-IsAppend (Append n bytes) = ⊤
+IsAppend (Append n bytes) = IsPiece bytes
 IsAppend (Rename p q) = ⊥
 IsAppend (Remove p) = ⊥
 IsAppend (RemoveDir p) = ⊥
 
--- makes or removes a file of this name, or appends
+-- makes or removes a file of this name, or appends a piece
 unfoldable pub IsOnName : PathView → Move → Type 0
 IsOnName name (MakeDir p) = ⊥
 IsOnName name (Create p n) = p ≡ name
-IsOnName name (Append n bytes) = ⊤
+IsOnName name (Append n bytes) = IsPiece bytes
 IsOnName name (Rename p q) = ⊥
 IsOnName name (Remove p) = p ≡ name
 IsOnName name (RemoveDir p) = ⊥
@@ -30,7 +35,7 @@ IsOnName name (RemoveDir p) = ⊥
 unfoldable pub IsFor : (last temp : PathView) → Move → Type 0
 IsFor last temp (MakeDir p) = ⊥
 IsFor last temp (Create p n) = p ≡ temp
-IsFor last temp (Append n bytes) = ⊤
+IsFor last temp (Append n bytes) = IsPiece bytes
 IsFor last temp (Rename p q) = (p ≡ temp) × (q ≡ last)
 IsFor last temp (Remove p) = p ≡ temp
 IsFor last temp (RemoveDir p) = ⊥

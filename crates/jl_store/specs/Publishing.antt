@@ -7,10 +7,11 @@ use Rattle.jl_folder.specs.declared.moves.Move.{Move}
 use Rattle.jl_folder.specs.declared.moves.Move.TheVariants.{Remove}
 use Rattle.jl_folder.specs.State.{State, Event, Trace, History, Opens, place_at, node_at, is_file, is_folder, has_parent, bytes_at, now, since}
 use Rattle.jl_folder.specs.Calls.{Creates, MaybeCreates, Maybe, OpensNew}
-use Rattle.jl_entry.specs.Names.{Final, IsTemp}
+use Rattle.jl_entry.specs.Names.{Final, IsFinal, IsTemp}
 use Rattle.jl_rely.specs.Claims.{Called, Anywhere}
 use Rattle.jl_rely.specs.Touches.{TouchedByOther}
 use Rattle.jl_protocol.specs.Proper.{IsProper}
+use Rattle.jl_protocol.specs.Whole.{IsWhole}
 use Rattle.jl_protocol.specs.Tidy.{IsTidy}
 use Rattle.jl_protocol.specs.Owned.{IsOwnFile}
 use Rattle.jl_store.specs.Kinds.{IsFor, PutsThis, UsesNames}
@@ -23,6 +24,10 @@ use Rattle.jl_store.specs.declared.files.Wrote.TheVariants as wrote
 use Rattle.jl_store.specs.declared.files.Published.{Published}
 use Rattle.jl_store.specs.declared.files.Published.TheVariants as published
 use Rattle.jl_clear.specs.Taking.{IsBeside}
+
+-- a file of some cache has this final name, and this temporary name of the token, and the bytes are whole for it
+abbrev pub IsOfFile : (token : List ℕ) → (last temp : PathView) → List ℕ → Type 0
+IsOfFile token last temp bytes = (root : PathView) × (x : Final) × IsTemp root x token temp × IsFinal root x last × IsWhole x bytes
 
 -- for every root and final file whose temporary name this is: own steps of these kinds, proper wherever all steps before them are;
 -- begun where Pre held, and where all steps are proper, the call ends where Post holds

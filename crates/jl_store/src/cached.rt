@@ -2,6 +2,7 @@
 ghost use Rattle.std.specs.Prelude.{◌≡◌, ◌≢◌, ◌≤◌, ◌⊎◌, ◌++◌, ℕ, List, Some, None, Option, IsSome, IfOk, OnOk, OnErr, IsTrue, IsUtf8, length};
 ghost use Rattle.jl_text.specs.Texts.{is_name};
 ghost use Rattle.jl_text.specs.Counts.{Rose};
+ghost use Rattle.jl_text.specs.declared.limits.TheConstants.{MOST_TEXT_BYTES};
 ghost use Rattle.jl_folder.specs.State.{now, since};
 ghost use Rattle.jl_streams.specs.Moments.{moment_of};
 ghost use Rattle.jl_value.specs.Tree.{nesting};
@@ -217,10 +218,10 @@ fn missed<L: Library, F: Folder, H: Host>(
     requires module_name { IsTrue (is_name memory.now.«module») }
     requires function_name { IsTrue (is_name name.now) }
     requires defined { L.code (L.loaded lib.old) name.now ≡ Some code.now }
-    requires code { length code.now ≤ 1048576 }
+    requires code { length code.now ≤ MOST_TEXT_BYTES }
     requires proper { IsProperTree (args_tree args.now) }
     requires depth { nesting (args_tree args.now) ≤ 64 }
-    requires size { length (text_of (args_tree args.now)) ≤ 1048576 }
+    requires size { length (text_of (args_tree args.now)) ≤ MOST_TEXT_BYTES }
     ensures lawful { F.told folder.old → CallsFolder (IsLawful (root_of memory.now.location) L.answer) (IsLawful (root_of memory.now.location) L.answer) (F.token folder.old) AnyMove
         (IsSound (root_of memory.now.location) L.answer) (IsSound (root_of memory.now.location) L.answer) (F.history folder.old) (F.history folder.new) }
     ensures missed { IsMissed result (L.answer code.now args.now) (L.calls lib.old) (L.calls lib.new) }
@@ -278,10 +279,10 @@ fn answered<L: Library, F: Folder, H: Host>(
     requires module_name { IsTrue (is_name memory.now.«module») }
     requires function_name { IsTrue (is_name name.now) }
     requires defined { L.code (L.loaded lib.old) name.now ≡ Some code.now }
-    requires code { length code.now ≤ 1048576 }
+    requires code { length code.now ≤ MOST_TEXT_BYTES }
     requires proper { IsProperTree (args_tree args.now) }
     requires depth { nesting (args_tree args.now) ≤ 64 }
-    requires size { length (text_of (args_tree args.now)) ≤ 1048576 }
+    requires size { length (text_of (args_tree args.now)) ≤ MOST_TEXT_BYTES }
     requires key { key.now.0 ≡ key_of args.now }
     ensures lawful { F.told folder.old → CallsFolder (IsLawful (root_of memory.now.location) L.answer) (IsLawful (root_of memory.now.location) L.answer) (F.token folder.old) AnyMove
         (IsSound (root_of memory.now.location) L.answer) (IsSound (root_of memory.now.location) L.answer) (F.history folder.old) (F.history folder.new) }
@@ -330,10 +331,10 @@ pub fn call_cached<L: Library, F: Folder, H: Host>(
     requires module_name { IsTrue (is_name memory.now.«module») }
     requires function_name { IsTrue (is_name name.now) }
     requires defined { IsSome (L.code (L.loaded lib.old) name.now) }
-    requires module_size { length (L.loaded lib.old) ≤ 1048576 }
+    requires module_size { length (L.loaded lib.old) ≤ MOST_TEXT_BYTES }
     requires proper { IsProperTree (args_tree args.now) }
     requires depth { nesting (args_tree args.now) ≤ 64 }
-    requires size { length (text_of (args_tree args.now)) ≤ 1048576 }
+    requires size { length (text_of (args_tree args.now)) ≤ MOST_TEXT_BYTES }
     // Lawful throughout, whatever others do.
     ensures lawful { F.told folder.old → CallsFolder (IsLawful (root_of memory.now.location) L.answer) (IsLawful (root_of memory.now.location) L.answer) (F.token folder.old) AnyMove
         (IsSound (root_of memory.now.location) L.answer) (IsSound (root_of memory.now.location) L.answer) (F.history folder.old) (F.history folder.new) }

@@ -6,19 +6,19 @@ ghost use Rattle.jl_folder.specs.State.{place_at, has_parent, now, since};
 ghost use Rattle.jl_folder.specs.declared.moves.Place.{Place};
 ghost use Rattle.jl_folder.specs.Calls.{Waits};
 ghost use Rattle.jl_text.specs.Counts.{Faults, Rose};
+ghost use Rattle.jl_text.specs.declared.limits.TheConstants.{MOST_TEXT_BYTES};
 ghost use Rattle.jl_entry.specs.Codes.{code_text};
-ghost use Rattle.jl_entry.specs.Names.{Final, IsFinal, IsTemp, root_of};
+ghost use Rattle.jl_entry.specs.Names.{Final, IsFinal, IsTemp, root_of, IsFunctionFolder};
 ghost use Rattle.jl_rely.specs.Steps.{AllSteps, IsLone};
 ghost use Rattle.jl_rely.specs.Touches.{TouchedByOther};
 ghost use Rattle.jl_rely.specs.Claims.{Called, Anywhere};
 ghost use Rattle.jl_protocol.specs.Whole.{Answers, IsWhole};
 ghost use Rattle.jl_protocol.specs.Tidy.{IsTidy};
 ghost use Rattle.jl_protocol.specs.Proper.{IsProper, LawfulThroughout};
-ghost use Rattle.jl_clear.specs.Taking.{IsFunctionFolder};
 ghost use Rattle.jl_store.specs.Alone.{LeavesAlone};
 ghost use Rattle.jl_store.specs.Kinds.{IsFor, PutsThis, UsesNames};
 ghost use Rattle.jl_store.specs.Next.{ChecksAlone};
-ghost use Rattle.jl_store.specs.Publishing.{IsPublished};
+ghost use Rattle.jl_store.specs.Publishing.{IsOfFile, IsPublished};
 ghost use Rattle.jl_store.specs.Checking.{IsHeld, Holds, AreFiles, IsDone, Stores, MovesFor, Comes, UsesCode, SkipsFor, Checks, IsChecking, check_of, function_path, code_path, code_temp};
 
 use crate::checks::{CodeCheck, CodeFiles, Held};
@@ -29,15 +29,13 @@ use crate::reading::read_final;
 use jl_clear::{Clear, clear_entries};
 use jl_entry::{code_file, function_folder, same_code, temp_name, write_code};
 use jl_folder::{FileRead, Folder, Path};
+use jl_text::limits::MOST_ENTRY_BYTES;
 use std::alloc::{AllocError, Global};
-
-// The longest text of the store, in bytes.
-const MOST_BYTES: usize = 16_777_216;
 
 fn compare(code: &str, bytes: &[u8]) -> Held
     ensures { IsHeld result bytes.now code.now }
 {
-    if bytes.len() > MOST_BYTES {
+    if bytes.len() > MOST_ENTRY_BYTES {
         return Held::Other;
     }
     if same_code(code, bytes) {
@@ -88,7 +86,7 @@ fn as_check(published: Published, done: CodeCheck) -> CodeCheck
 
 // Publishes the code's file.
 fn store<F: Folder>(folder: &mut F, files: &CodeFiles, bytes: &[u8], done: CodeCheck) -> CodeCheck
-    requires apart { files.now.temp ≢ files.now.last }
+    requires of_file { IsOfFile (F.token folder.old) files.now.last files.now.temp bytes.now }
     requires done { done ≢ CodeCheck.StoreFault }
     requires unskipped { done ≢ CodeCheck.Skipped }
     ensures stores { Stores F.token F.told F.history F.opens F.faults files.now bytes.now (IsFor files.now.last files.now.temp) result folder.old folder.new }
@@ -106,7 +104,7 @@ fn store<F: Folder>(folder: &mut F, files: &CodeFiles, bytes: &[u8], done: CodeC
 
 // Makes the folders and publishes the code.
 fn write_new<F: Folder>(alloc: Global, folder: &mut F, files: &CodeFiles, bytes: &[u8]) -> CodeCheck
-    requires { files.now.temp ≢ files.now.last }
+    requires { IsOfFile (F.token folder.old) files.now.last files.now.temp bytes.now }
     ensures stores { Stores F.token F.told F.history F.opens F.faults files.now bytes.now (MovesFor files.now Held.Absent) result folder.old folder.new }
     ensures comes { Comes result Held.Absent }
     ensures skips { F.told folder.old → SkipsFor result (F.token folder.old) files.now bytes.now Anywhere (F.history folder.old) (F.history folder.new) }
@@ -127,7 +125,7 @@ fn write_over<F: Folder>(
     files: &CodeFiles,
     bytes: &[u8],
 ) -> CodeCheck
-    requires apart { files.now.temp ≢ files.now.last }
+    requires of_file { IsOfFile (F.token folder.old) files.now.last files.now.temp bytes.now }
     requires of_function { (root : PathView) × IsFunctionFolder root files.now.folder }
     ensures stores { Stores F.token F.told F.history F.opens F.faults files.now bytes.now (MovesFor files.now Held.Other) result folder.old folder.new }
     ensures comes { Comes result Held.Other }
@@ -149,7 +147,7 @@ fn follow<F: Folder>(
     bytes: &[u8],
     held: Held,
 ) -> CodeCheck
-    requires apart { files.now.temp ≢ files.now.last }
+    requires of_file { IsOfFile (F.token folder.old) files.now.last files.now.temp bytes.now }
     requires of_function { (root : PathView) × IsFunctionFolder root files.now.folder }
     ensures stores { Stores F.token F.told F.history F.opens F.faults files.now bytes.now (MovesFor files.now held) result folder.old folder.new }
     ensures comes { Comes result held }
@@ -178,7 +176,7 @@ pub fn check_code<F: Folder>(
     requires token { F.token folder.old ≡ memory.now.token }
     requires module_name { IsTrue (is_name memory.now.«module») }
     requires function_name { IsTrue (is_name name.now) }
-    requires code { length code.now ≤ 1048576 }
+    requires code { length code.now ≤ MOST_TEXT_BYTES }
     requires line { 1 ≤ line }
     ensures told { F.told folder.old → F.told folder.new }
     ensures token { F.token folder.new ≡ F.token folder.old }

@@ -15,13 +15,11 @@ ghost use Rattle.jl_protocol.specs.Whole.{IsWhole};
 ghost use Rattle.jl_protocol.specs.Proper.{IsProper};
 ghost use Rattle.jl_protocol.specs.Owned.{IsOwnFile};
 ghost use Rattle.jl_store.specs.Kinds.{IsAppend, IsFor, PutsThis, UsesNames};
-ghost use Rattle.jl_store.specs.Publishing.{CallsOn, BytesLeft, EndsIn, Publishes, IsDraft, IsPublished, BytesAlone};
+ghost use Rattle.jl_store.specs.Publishing.{CallsOn, BytesLeft, EndsIn, Publishes, IsOfFile, IsDraft, IsPublished, BytesAlone};
 
 use crate::temporary::{TempFile, abandon, create_temp};
 use jl_folder::{Appended, FileNo, Folder, Path, Renamed};
-
-// The longest piece of one append, in bytes.
-const PIECE: usize = 65_536;
+use jl_text::limits::PIECE_BYTES;
 
 // The answer of an appending.
 #[derive(Clone, Copy)]
@@ -56,7 +54,7 @@ fn append_all<F: Folder>(folder: &mut F, number: FileNo, bytes: &[u8]) -> Wrote
 {
     let mut at = 0;
     while at < bytes.len() {
-        let end = bytes.len().min(at + PIECE);
+        let end = bytes.len().min(at + PIECE_BYTES);
         match folder.append(number, &bytes[at..end]) {
             Appended::Wrote(count) => at += count,
             Appended::Failed => return Wrote::Fault,
@@ -155,7 +153,7 @@ fn publish_open<F: Folder>(
 /// Publishes a final file: all bytes stand under the temporary name before the one rename that gives them the final name.
 /// Where another run takes a name or the folder away meanwhile it is skipped; after a fault the temporary name is taken away, if that can be.
 pub fn publish<F: Folder>(folder: &mut F, last: &Path, temp: &Path, bytes: &[u8]) -> Published
-    requires { temp.now ≢ last.now }
+    requires { IsOfFile (F.token folder.old) last.now temp.now bytes.now }
     ensures told { F.told folder.old → F.told folder.new }
     ensures goes { F.told folder.old → GoesOn (F.history folder.old) (F.history folder.new) }
     ensures token { F.token folder.new ≡ F.token folder.old }

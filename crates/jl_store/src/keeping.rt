@@ -99,6 +99,7 @@ fn keep_file<F: Folder>(
     requires token { F.token folder.old ≡ memory.now.token }
     requires module_name { IsTrue (is_name memory.now.«module») }
     requires function_name { IsTrue (is_name name.now) }
+    requires whole { IsWhole (file_of (entry_in memory.now name.now key.now.0) file) bytes.now }
     ensures told { F.told folder.old → F.told folder.new }
     ensures goes { F.told folder.old → GoesOn (F.history folder.old) (F.history folder.new) }
     ensures token { F.token folder.new ≡ F.token folder.old }
@@ -139,6 +140,7 @@ fn make_entry<F: Folder>(
         AreReady (entry_in memory.now name.now key.now.0) (F.token folder.old) IsAnyFile (now (F.history folder.new)) ⊎ TouchedByOther (F.token folder.old) (UsesEntry (entry_in memory.now name.now key.now.0) (F.token folder.old)) (since (F.history folder.old) (F.history folder.new)) }
     ensures alone { F.told folder.old → result ≡ Keep.Kept → IsLone (F.token folder.old) (since (F.history folder.old) (F.history folder.new)) → IsBeside (λ p. p ≡ entry_path (entry_in memory.now name.now key.now.0)) (now (F.history folder.old)) (now (F.history folder.new)) }
 {
+    let _token = memory.token.as_str();
     match entry_folder(alloc, &memory.location, memory.module.as_str(), name, key) {
         Ok(path) => made(folder.make_dir(&path)),
         Err(_) => Keep::NoMemory,
@@ -157,6 +159,7 @@ fn keep_moments<F: Folder>(
     requires token { F.token folder.old ≡ memory.now.token }
     requires module_name { IsTrue (is_name memory.now.«module») }
     requires function_name { IsTrue (is_name name.now) }
+    requires whole { AreWhole (entry_in memory.now name.now key.now.0) (text_in texts.now) }
     ensures told { F.told folder.old → F.told folder.new }
     ensures goes { F.told folder.old → GoesOn (F.history folder.old) (F.history folder.new) }
     ensures token { F.token folder.new ≡ F.token folder.old }
@@ -199,6 +202,7 @@ fn keep_files<F: Folder>(
     requires token { F.token folder.old ≡ memory.now.token }
     requires module_name { IsTrue (is_name memory.now.«module») }
     requires function_name { IsTrue (is_name name.now) }
+    requires whole { AreWhole (entry_in memory.now name.now key.now.0) (text_in texts.now) }
     ensures told { F.told folder.old → F.told folder.new }
     ensures goes { F.told folder.old → GoesOn (F.history folder.old) (F.history folder.new) }
     ensures token { F.token folder.new ≡ F.token folder.old }
@@ -230,6 +234,7 @@ fn keep_texts<F: Folder>(
     requires token { F.token folder.old ≡ memory.now.token }
     requires module_name { IsTrue (is_name memory.now.«module») }
     requires function_name { IsTrue (is_name name.now) }
+    requires whole { AreWhole (entry_in memory.now name.now key.now.0) (text_in texts.now) }
     ensures told { F.told folder.old → F.told folder.new }
     ensures goes { F.told folder.old → GoesOn (F.history folder.old) (F.history folder.new) }
     ensures token { F.token folder.new ≡ F.token folder.old }

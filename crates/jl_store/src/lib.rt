@@ -20,6 +20,7 @@ pub use checking::check_code;
 pub use checks::CodeCheck;
 pub use files::{Published, publish};
 pub use found::Look;
+pub use jl_clear::{Clear, clear_all, clear_function, clear_item, clear_module};
 pub use jl_folder::FileRead;
 pub use keeping::{keep, touch};
 pub use looking::look;

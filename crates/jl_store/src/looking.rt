@@ -16,17 +16,15 @@ use crate::memory::{Memory, WarnKind, Warning};
 use crate::reading::read_final;
 use jl_entry::{EntryFile, ReadOutput, entry_file, read_output};
 use jl_folder::{FileRead, Folder, Path, Text};
+use jl_text::limits::MOST_ENTRY_BYTES;
 use jl_value::{Args, Key, Value, digest};
 use std::alloc::{AllocError, Global};
-
-// The longest text of the store, in bytes.
-const MOST_BYTES: usize = 16_777_216;
 
 // What the bytes of an output are to this code and these arguments.
 fn judge(alloc: Global, code: &str, args: &Args, bytes: &[u8]) -> Found
     ensures { IsJudged result bytes.now code.now args.now }
 {
-    if bytes.len() > MOST_BYTES {
+    if bytes.len() > MOST_ENTRY_BYTES {
         return Found::Damaged;
     }
     match read_output(alloc, code, args, bytes) {

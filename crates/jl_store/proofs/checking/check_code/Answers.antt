@@ -53,17 +53,20 @@ returns-in_default-write_code-clause-lawful g c = λ t answer.
 pub follow-requires-clause-of_function : goal.follow-requires-clause-of_function
 follow-requires-clause-of_function g c = (root_of c.args.memory.now.location, (c.args.memory.now.module, c.args.name.now, c.requires.module_name, c.requires.function_name, c.in-Ok.ensures.0))
 
-pub follow-requires-clause-apart : goal.follow-requires-clause-apart
-follow-requires-clause-apart g c = λ e.
-    final_not_temp (root_of c.args.memory.now.location) (code_of c.args.memory.now.module c.args.name.now) (code_of c.args.memory.now.module c.args.name.now) c.args.memory.now.token _ c.in-Ok.ensures.1
-    (subst (λ (p : PathView). IsTemp (root_of c.args.memory.now.location) (code_of c.args.memory.now.module c.args.name.now) c.args.memory.now.token p) e c.in-Ok.ensures.2)
-
 -- the token of the folder is the memory's, also after the reading
 token_is : (g : given.Over) (c : goal.After-drop-files-4 g) → g.F.Folder.token c.held-held.new.folder ≡ c.args.memory.now.token
 token_is g c = c.held-held.ensures.token ∙ c.requires.token
 
 waited : (g : given.Over) (c : goal.After-drop-files-4 g) → g.F.Folder.told c.args.folder.now → Waits c.args.memory.now.token (g.F.Folder.history c.args.folder.now) (g.F.Folder.history c.held-held.new.folder)
 waited g c t = subst (λ (u : List ℕ). Waits u (g.F.Folder.history c.args.folder.now) (g.F.Folder.history c.held-held.new.folder)) c.requires.token (c.held-held.ensures.waits t)
+
+pub follow-requires-clause-of_file : goal.follow-requires-clause-of_file
+follow-requires-clause-of_file g c =
+    let root = root_of c.args.memory.now.location in
+    let code = code_of c.args.memory.now.module c.args.name.now in
+    let text : _ ≡ code_text c.args.code.now c.args.line = c.as_slice.ensures ∙ c.in-Ok-write_code.ensures.text in
+    let whole = subst (IsWhole code) (sym text) (code_whole c.args.memory.now.module c.args.name.now c.args.code.now c.args.line c.requires.line (omega arith) c.requires.code) in
+    (root, code, subst (λ (u : List ℕ). IsTemp root code u c.in-Ok.files.temp) (sym (c.held-held.ensures.token ∙ c.requires.token)) c.in-Ok.ensures.2, c.in-Ok.ensures.1, whole)
 
 -- what was done after the reading
 stored : (g : given.Over) (c : goal.After-drop-files-4 g) → g.F.Folder.told c.args.folder.now

@@ -1,3 +1,4 @@
+use Rattle.jl_store.specs.Publishing.{IsOfFile}
 use Rattle.std.proofs.Common.{inl, ℕ, List, sym, subst}
 use Rattle.jl_folder.specs.State.{now, since}
 use Rattle.jl_rely.specs.Steps.{IsLone}
@@ -16,6 +17,10 @@ use Rattle.jl_store.proofs.StorePaths.{making_puts}
 use Rattle.jl_store.proofs.CheckLemmas.{stores_then, stores_only}
 use Rattle.jl_store.proofs.CodeAlone.{writes_code, leaves_written, comes_written}
 use Rattle.jl_store.proofs.checking.write_new.Goals as goal
+
+pub store-requires-clause-of_file : goal.store-requires-clause-of_file
+store-requires-clause-of_file g c =
+    subst (λ (u : List ℕ). IsOfFile u c.args.files.now.last c.args.files.now.temp c.args.bytes.now) (sym c.make_folders.ensures.does.same_token) c.requires
 
 pub returns-in-Made-clause-stores : goal.returns-in-Made-clause-stores
 returns-in-Made-clause-stores g c = stores_then g.F.Folder.token g.F.Folder.told g.F.Folder.history g.F.Folder.opens g.F.Folder.faults c.args.files.now c.args.bytes.now (IsMaking c.args.files.now.folder) (λ root fun t s m is. making_puts root c.args.files.now.folder fun c.args.files.now.last c.args.bytes.now t s m is) c.store.result c.args.folder.now c.make_folders.new.folder c.store.new.folder c.make_folders.ensures.does c.store.ensures.stores

@@ -1,12 +1,12 @@
+use Rattle.jl_store.specs.Publishing.{IsOfFile}
 use Rattle.std.proofs.Common.{◌≡◌, ℕ, List, sym, subst}
 use Rattle.jl_folder.specs.State.{now, since}
 use Rattle.jl_rely.specs.Steps.{IsLone}
 use Rattle.jl_rely.proofs.Alone.{lone_parts}
 use Rattle.jl_clear.specs.declared.removing.Clear.TheVariants.{Cleared, Fault}
-use Rattle.jl_clear.specs.Taking.{IsFunctionFolder}
 use Rattle.jl_clear.proofs.DoingLemmas.{goes_does}
 use Rattle.jl_store.specs.Checking.{IsDone}
-use Rattle.jl_entry.specs.Names.{code_of, IsTemp}
+use Rattle.jl_entry.specs.Names.{code_of, IsTemp, IsFunctionFolder}
 use Rattle.jl_rely.specs.Touches.{TouchedByOther}
 use Rattle.jl_store.specs.Kinds.{UsesNames}
 use Rattle.jl_store.proofs.Cleared.{cleared_does, cleared_alone}
@@ -16,6 +16,11 @@ use Rattle.jl_store.proofs.StorePaths.{clearing_puts}
 use Rattle.jl_store.proofs.CheckLemmas.{stores_then, stores_only}
 use Rattle.jl_store.proofs.CodeAlone.{replaces_code, leaves_replaced, comes_replaced}
 use Rattle.jl_store.proofs.checking.write_over.Goals as goal
+
+pub store-requires-clause-of_file : goal.store-requires-clause-of_file
+store-requires-clause-of_file g c =
+    let (root, of) = c.requires.of_function in
+    subst (λ (u : List ℕ). IsOfFile u c.args.files.now.last c.args.files.now.temp c.args.bytes.now) (sym (c.clear_entries.ensures root of).does.same_token) c.requires.of_file
 
 pub returns-in-Cleared-clause-stores : goal.returns-in-Cleared-clause-stores
 returns-in-Cleared-clause-stores g c =

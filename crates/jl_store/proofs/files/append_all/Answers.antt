@@ -1,4 +1,4 @@
-use Rattle.std.proofs.Common.{◌-◌, take, drop, subst, sym}
+use Rattle.std.proofs.Common.{◌-◌, take, drop, subst, sym, arith, length-take}
 use Rattle.jl_folder.specs.Calls.{IsMade}
 use Rattle.jl_store.proofs.Filling.{going_start, going_on, going_stops, going_goes, going_end, going_alone}
 use Rattle.jl_store.proofs.files.append_all.Goals as goal
@@ -12,12 +12,12 @@ append-requires g c = subst (λ o. IsMade o c.args.number.0) (sym c.loop-at.inva
 pub loop-at-preserved : goal.loop-at-preserved
 loop-at-preserved g c =
     going_on g.F.Folder.token g.F.Folder.told g.F.Folder.history g.F.Folder.opens g.F.Folder.faults c.args.folder.now c.loop-at.folder c.args.number.0 c.args.bytes.now c.loop-at.at c.loop-at.invariant
-    c.append.new.self (c.min-end.result - c.loop-at.at) c.in-Wrote.count c.in-Wrote.ensures.some.0 c.in-Wrote.ensures.told c.in-Wrote.ensures.token c.in-Wrote.ensures.opens c.in-Wrote.ensures.faults.later c.in-Wrote.ensures.call
+    c.append.new.self (c.min-end.result - c.loop-at.at) c.in-Wrote.count (omega (arith, c.min-end.ensures)) c.in-Wrote.ensures.some.0 c.in-Wrote.ensures.told c.in-Wrote.ensures.token c.in-Wrote.ensures.opens c.in-Wrote.ensures.faults.later c.in-Wrote.ensures.call
 
 pub returns-in-Failed-clause-called : goal.returns-in-Failed-clause-called
 returns-in-Failed-clause-called g c =
     going_stops g.F.Folder.token g.F.Folder.told g.F.Folder.history g.F.Folder.opens g.F.Folder.faults c.args.folder.now c.loop-at.folder c.args.number.0 c.args.bytes.now c.loop-at.at c.loop-at.invariant
-    c.append.new.self (take (c.min-end.result - c.loop-at.at) (drop c.loop-at.at c.args.bytes.now)) c.append.result c.append.ensures.call
+    c.append.new.self (take (c.min-end.result - c.loop-at.at) (drop c.loop-at.at c.args.bytes.now)) (omega (arith, c.min-end.ensures, length-take (c.min-end.result - c.loop-at.at) (drop c.loop-at.at c.args.bytes.now))) c.append.result c.append.ensures.call
 
 pub returns-in-Failed-clause-goes : goal.returns-in-Failed-clause-goes
 returns-in-Failed-clause-goes g c =
@@ -27,7 +27,7 @@ returns-in-Failed-clause-goes g c =
 pub returns-in-NoMemory-clause-called : goal.returns-in-NoMemory-clause-called
 returns-in-NoMemory-clause-called g c =
     going_stops g.F.Folder.token g.F.Folder.told g.F.Folder.history g.F.Folder.opens g.F.Folder.faults c.args.folder.now c.loop-at.folder c.args.number.0 c.args.bytes.now c.loop-at.at c.loop-at.invariant
-    c.append.new.self (take (c.min-end.result - c.loop-at.at) (drop c.loop-at.at c.args.bytes.now)) c.append.result c.append.ensures.call
+    c.append.new.self (take (c.min-end.result - c.loop-at.at) (drop c.loop-at.at c.args.bytes.now)) (omega (arith, c.min-end.ensures, length-take (c.min-end.result - c.loop-at.at) (drop c.loop-at.at c.args.bytes.now))) c.append.result c.append.ensures.call
 
 pub returns-in-NoMemory-clause-goes : goal.returns-in-NoMemory-clause-goes
 returns-in-NoMemory-clause-goes g c =

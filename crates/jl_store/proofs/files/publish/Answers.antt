@@ -18,9 +18,12 @@ use Rattle.jl_store.specs.Publishing.{CallsOn, EndsIn, IsDraft, IsPublished, Tem
 use Rattle.jl_store.specs.declared.temporary.TempFile.TheVariants as temp_file
 use Rattle.jl_store.specs.declared.files.Published.TheVariants as published
 use Rattle.jl_store.proofs.KindFacts.{as_publishing}
-use Rattle.jl_store.proofs.NamePlaces.{beside}
+use Rattle.jl_store.proofs.NamePlaces.{beside, names_apart}
 use Rattle.jl_store.proofs.Ending.{ends_later, skipped_made, skipped_first}
 use Rattle.jl_store.proofs.files.publish.Goals as goal
+
+pub publish_open-requires-clause-apart : goal.publish_open-requires-clause-apart
+publish_open-requires-clause-apart g c = names_apart (g.F.Folder.token c.args.folder.now) c.args.last.now c.args.temp.now c.args.bytes.now c.requires
 
 pub publish_open-requires-clause-made : goal.publish_open-requires-clause-made
 publish_open-requires-clause-made g c = IsMade-new c.in-File.number.0 (g.F.Folder.opens c.args.folder.now) (g.F.Folder.opens c.create_temp.new.folder) c.in-File.ensures.opens
@@ -64,7 +67,7 @@ returns-in-File-clause-called g c t root x is_temp is_final whole =
       skipped = λ skipped ready.
           let later = subst (λ k. is_folder (now h1) last ≡ false → has_parent (now h1) last ≡ true → TouchedByOther k (UsesNames last temp) (since h1 h2)) same
           (c.publish_open.ensures.skipped t1 skipped root x is_temp' is_final file made.1 file.node (c.in-File.ensures.named t file made.1)) in
-          skipped_made token last temp h0 h1 h2 c.requires (beside root x token last temp is_temp is_final) (c.create_temp.ensures.goes t) (c.publish_open.ensures.goes t1) first.own later
+          skipped_made token last temp h0 h1 h2 (names_apart token last temp bytes c.requires) (beside root x token last temp is_temp is_final) (c.create_temp.ensures.goes t) (c.publish_open.ensures.goes t1) first.own later
           ready.last_free ready.home;
     }
 

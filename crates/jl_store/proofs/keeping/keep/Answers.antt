@@ -7,6 +7,10 @@ use Rattle.jl_store.specs.Keeping.{entry_in, texts, text_in, IsReadyToKeep, HasP
 use Rattle.jl_store.proofs.KeepFacts.{nothing_keeps}
 use Rattle.jl_store.proofs.keeping.keep.Goals as goal
 
+pub keep_texts-requires-clause-whole : goal.keep_texts-requires-clause-whole
+keep_texts-requires-clause-whole g c =
+    c.in-Ok-entry_texts.ensures.whole (entry_in c.args.memory.now c.args.name.now c.in-Ok.key.0) (ap encode_lower c.in-Ok.ensures.key)
+
 pub returns-in_default-clause-called : goal.returns-in_default-clause-called
 returns-in_default-clause-called g c t =
     let e = entry_in c.args.memory.now c.args.name.now (key_of c.args.args.now) in

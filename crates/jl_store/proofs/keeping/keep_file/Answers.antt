@@ -1,16 +1,15 @@
 use Rattle.std.proofs.Common.{sym, subst, ◌∙◌}
 use Rattle.jl_folder.specs.State.{now}
-use Rattle.jl_entry.specs.Names.{root_of, IsTemp}
-use Rattle.jl_entry.proofs.NameFacts.{final_not_temp}
+use Rattle.jl_entry.specs.Names.{IsTemp}
 use Rattle.jl_store.specs.Keeping.{entry_in, file_of, KeepsFile, IsReadyFor}
 use Rattle.jl_store.proofs.KeepFacts.{file_keeps, file_published, nothing_filed, done_if, touch_ready}
 use Rattle.jl_store.proofs.keeping.keep_file.Goals as goal
 
 pub publish-requires : goal.publish-requires
-publish-requires g c same =
-    let root = root_of c.args.memory.now.location in
-    let x = file_of (entry_in c.args.memory.now c.args.name.now c.args.key.now.0) c.args.file in
-    final_not_temp root x x c.args.memory.now.token c.in-Ok.names.last c.in-Ok.ensures.last (subst (IsTemp root x c.args.memory.now.token) same c.in-Ok.ensures.temp)
+publish-requires g c =
+    let e = entry_in c.args.memory.now c.args.name.now c.args.key.now.0 in
+    let x = file_of e c.args.file in
+    (e.root, x, subst (λ k. IsTemp e.root x k c.in-Ok.names.temp) (sym c.requires.token) c.in-Ok.ensures.temp, c.in-Ok.ensures.last, c.requires.whole)
 
 pub returns-in-Ok-clause-called : goal.returns-in-Ok-clause-called
 returns-in-Ok-clause-called g c t whole =
@@ -54,4 +53,4 @@ returns-in-Ok-clause-tidy g c t whole is ready =
     let is_temp = subst (λ k. IsTemp e.root (file_of e c.args.file) k temp) (sym c.requires.token) c.in-Ok.ensures.temp in
     let keeps = file_keeps e token c.args.file h0 h1 last temp c.args.bytes.now c.publish.result c.in-Ok.ensures.last is_temp
     (c.publish.ensures.called t e.root (file_of e c.args.file) is_temp c.in-Ok.ensures.last whole) (c.publish.ensures.done t) in
-    keeps.skipped (sym c.as_keep.ensures ∙ is) (touch_ready e token c.in-Ok.ensures.last.formed c.args.file (now h0) ready)
+    keeps.skipped (sym c.as_keep.ensures ∙ is) (touch_ready e token c.in-Ok.ensures.last.formed is_temp.of_token c.args.file (now h0) ready)

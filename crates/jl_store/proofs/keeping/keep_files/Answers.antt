@@ -12,6 +12,10 @@ use Rattle.jl_store.specs.declared.answer.Keep.TheVariants as keep
 use Rattle.jl_store.proofs.KeepFacts.{file_part, part_alone, keeps_then, keeps_ends, moments_ready, output_apart, output_split, files_then, includes_left, includes_right}
 use Rattle.jl_store.proofs.keeping.keep_files.Goals as goal
 
+pub keep_file-requires-clause-whole : goal.keep_file-requires-clause-whole
+keep_file-requires-clause-whole g c =
+    subst (IsWhole (file_of (entry_in c.args.memory.now c.args.name.now c.args.key.now.0) Output)) (sym c.as_slice-output.ensures) (c.requires.whole Output)
+
 pub keep_moments-requires-clause-token : goal.keep_moments-requires-clause-token
 keep_moments-requires-clause-token g c = c.keep_file.ensures.token ∙ c.requires.token
 

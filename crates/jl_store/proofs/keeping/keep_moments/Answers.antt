@@ -12,6 +12,14 @@ use Rattle.jl_store.specs.declared.answer.Keep.TheVariants as keep
 use Rattle.jl_store.proofs.KeepFacts.{file_part, part_alone, keeps_then, keeps_ends, ready_on, files_then, includes_left, includes_right}
 use Rattle.jl_store.proofs.keeping.keep_moments.Goals as goal
 
+pub keep_file-requires-clause-whole : goal.keep_file-requires-clause-whole
+keep_file-requires-clause-whole g c =
+    subst (IsWhole (file_of (entry_in c.args.memory.now c.args.name.now c.args.key.now.0) Metadata)) (sym c.as_slice-metadata.ensures) (c.requires.whole Metadata)
+
+pub keep_file-requires-in-Kept-clause-whole : goal.keep_file-requires-in-Kept-clause-whole
+keep_file-requires-in-Kept-clause-whole g c =
+    subst (IsWhole (file_of (entry_in c.args.memory.now c.args.name.now c.args.key.now.0) Access)) (sym c.as_slice-access.ensures) (c.requires.whole Access)
+
 pub keep_file-requires-in-Kept-clause-token : goal.keep_file-requires-in-Kept-clause-token
 keep_file-requires-in-Kept-clause-token g c = c.keep_file.ensures.token ∙ c.requires.token
 

@@ -9,6 +9,11 @@ use Rattle.jl_store.proofs.KeepFacts.{file_from, nothing_filed}
 use Rattle.jl_store.proofs.Wholes.{access_whole}
 use Rattle.jl_store.proofs.keeping.touch.Goals as goal
 
+pub keep_file-requires-clause-whole : goal.keep_file-requires-clause-whole
+keep_file-requires-clause-whole g c =
+    let e = entry_in c.args.memory.now c.args.name.now c.args.key.now.0 in
+    subst (IsWhole (file_of e Access)) (sym c.as_slice.ensures) (access_whole e.module_name e.function_name e.key c.in-Ok.bytes c.args.moment c.in-Ok.ensures)
+
 pub returns-in-Ok-clause-called : goal.returns-in-Ok-clause-called
 returns-in-Ok-clause-called g c t =
     let e = entry_in c.args.memory.now c.args.name.now c.args.key.now.0 in
