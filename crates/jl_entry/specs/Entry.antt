@@ -1,5 +1,5 @@
 -- The text of a cache entry.
-use Rattle.std.specs.Prelude.{◌≡◌, ◌≤◌, ℕ, pos, List, [], ◌∷◌, Option, MatchOption, ⊤}
+use Rattle.std.specs.Prelude.{◌≡◌, ◌≤◌, ℕ, pos, List, Option, MatchOption, codes, ⊤}
 use Rattle.jl_value.specs.Tree.{Tree, whole, text, table, no_members, member, nesting}
 use Rattle.jl_value.specs.Canonical.{text_of}
 use Rattle.jl_value.specs.Form.{tree_of}
@@ -11,19 +11,19 @@ use Rattle.jl_entry.specs.declared.output.ReadOutput.TheVariants.{Value, NotMine
 
 -- `args`
 abbrev pub args_key : List ℕ
-args_key = 97 ∷ 114 ∷ 103 ∷ 115 ∷ []
+args_key = codes "args"
 
 -- `code`
 abbrev pub code_key : List ℕ
-code_key = 99 ∷ 111 ∷ 100 ∷ 101 ∷ []
+code_key = codes "code"
 
 -- `format`
 abbrev pub format_key : List ℕ
-format_key = 102 ∷ 111 ∷ 114 ∷ 109 ∷ 97 ∷ 116 ∷ []
+format_key = codes "format"
 
 -- `value`
 abbrev pub value_key : List ℕ
-value_key = 118 ∷ 97 ∷ 108 ∷ 117 ∷ 101 ∷ []
+value_key = codes "value"
 
 -- arguments: the members of their table
 abbrev pub Members : Type 0
@@ -39,15 +39,15 @@ entry_text code ps t = text_of (entry_tree code ps t)
 
 -- the text before the arguments: `{"args":`
 abbrev pub first_piece : List ℕ
-first_piece = 123 ∷ 34 ∷ 97 ∷ 114 ∷ 103 ∷ 115 ∷ 34 ∷ 58 ∷ []
+first_piece = codes "{\"args\":"
 
 -- the text before the code: `,"code":`
 abbrev pub code_piece : List ℕ
-code_piece = 44 ∷ 34 ∷ 99 ∷ 111 ∷ 100 ∷ 101 ∷ 34 ∷ 58 ∷ []
+code_piece = codes ",\"code\":"
 
 -- the text before the value: `,"format":1,"value":`
 abbrev pub value_piece : List ℕ
-value_piece = 44 ∷ 34 ∷ 102 ∷ 111 ∷ 114 ∷ 109 ∷ 97 ∷ 116 ∷ 34 ∷ 58 ∷ 49 ∷ 44 ∷ 34 ∷ 118 ∷ 97 ∷ 108 ∷ 117 ∷ 101 ∷ 34 ∷ 58 ∷ []
+value_piece = codes ",\"format\":1,\"value\":"
 
 -- the bytes are the entry of this code, these arguments and this value, which a reader 70 deep reads
 pub record IsEntryOf (bytes code : List ℕ) (ps : Members) (t : Tree) : Type 0 where

@@ -4,8 +4,7 @@ ghost use Rattle.std.specs.List.{before_first, after_first, position_or_len};
 ghost use Rattle.jl_entry.specs.Moments.{IsMoment};
 
 use itoa::Buffer;
-
-const LAST_MOMENT: u64 = 4_611_686_018_427_387_904;
+use jl_text::limits::LAST_MOMENT;
 
 /// What stands before a byte, and what stands behind it.
 #[derive(Clone, Copy, Drop)]
