@@ -1,6 +1,11 @@
 // What a row gives: its arguments, and the forms of bytes that are long or no text.
 
-use jl_text::Text;
+ghost use Rattle.std.specs.Prelude.{◌≤◌, IfOk};
+ghost use Rattle.jl_value.specs.Tree.{nesting};
+ghost use Rattle.jl_value.specs.Form.{tree_of};
+ghost use Rattle.jl_value.specs.Key.{args_tree};
+
+use jl_text::{Path, Text, Token};
 use jl_value::{Args, Value, ValueFault, read_value};
 use std::alloc::{AllocError, AllocFailed, Global};
 
@@ -24,15 +29,17 @@ impl<T: Drop> From<AllocFailed<T>> for RowFault {
     }
 }
 
-fn value_of(alloc: Global, json: &str) -> Result<Value, RowFault> {
-    match read_value(alloc, json.as_bytes(), 100) {
+fn value_of(alloc: Global, json: &str) -> Result<Value, RowFault>
+    ensures { IfOk result (λ v. nesting (tree_of v) ≤ 64) }
+{
+    match read_value(alloc, json.as_bytes(), 64) {
         Ok(value) => Ok(value),
         Err(ValueFault::Memory) => Err(RowFault::Memory),
         Err(_) => Err(RowFault::Bad),
     }
 }
 
-/// The members of the list that a text spells, or the one value that is no list.
+/// The arguments of a row: the members of the list that a text spells, or the one value that is no list.
 pub fn arguments(alloc: Global, json: &str) -> Result<Vec<Value>, RowFault> {
     match value_of(alloc, json)? {
         Value::List(list) => Ok(list.into_vec()),
@@ -44,7 +51,7 @@ pub fn arguments(alloc: Global, json: &str) -> Result<Vec<Value>, RowFault> {
     }
 }
 
-fn argument(given: &[Value], place: usize) -> Result<&Value, RowFault> {
+pub fn argument(given: &[Value], place: usize) -> Result<&Value, RowFault> {
     given.get(place).ok_or(RowFault::Bad)
 }
 
@@ -57,6 +64,13 @@ pub fn number(given: &[Value], place: usize) -> Result<u64, RowFault> {
     }
 }
 
+/// A number of 32 bits.
+pub fn small_number(given: &[Value], place: usize) -> Result<u32, RowFault> {
+    u32::try_from(number(given, place)?)
+        .ok()
+        .ok_or(RowFault::Bad)
+}
+
 pub fn whole(given: &[Value], place: usize) -> Result<i64, RowFault> {
     match argument(given, place)? {
         Value::Whole(whole) => Ok(*whole),
@@ -64,6 +78,7 @@ pub fn whole(given: &[Value], place: usize) -> Result<i64, RowFault> {
     }
 }
 
+/// The arguments that a table of the row is.
 pub fn table(alloc: Global, given: &[Value], place: usize) -> Result<Args, RowFault> {
     let value = argument(given, place)?.copy(alloc)?;
     Args::from_value(value).ok().ok_or(RowFault::Bad)
@@ -89,6 +104,34 @@ pub fn text(alloc: Global, given: &[Value], place: usize) -> Result<Text, RowFau
     let bytes = bytes(alloc, given, place)?;
     match String::from_utf8(bytes) {
         Ok(text) => Ok(Text::new(text)),
+        Err(_) => Err(RowFault::Bad),
+    }
+}
+
+pub fn path(alloc: Global, given: &[Value], place: usize) -> Result<Path, RowFault> {
+    let text = text(alloc, given, place)?;
+    Path::read(alloc, text.as_str()).ok().ok_or(RowFault::Bad)
+}
+
+pub fn token(alloc: Global, given: &[Value], place: usize) -> Result<Token, RowFault> {
+    let text = text(alloc, given, place)?;
+    Token::read(alloc, text.as_str()).ok().ok_or(RowFault::Bad)
+}
+
+/// The value that a text spells.
+pub fn value(alloc: Global, given: &[Value], place: usize) -> Result<Value, RowFault>
+    ensures { IfOk result (λ v. nesting (tree_of v) ≤ 64) }
+{
+    let text = text(alloc, given, place)?;
+    value_of(alloc, text.as_str())
+}
+
+/// The arguments that a text spells.
+pub fn args(alloc: Global, given: &[Value], place: usize) -> Result<Args, RowFault>
+    ensures { IfOk result (λ a. nesting (args_tree a) ≤ 64) }
+{
+    match Args::from_value(value(alloc, given, place)?) {
+        Ok(args) => Ok(args),
         Err(_) => Err(RowFault::Bad),
     }
 }

@@ -5,14 +5,23 @@
 //! blanks. A row of no case, or with other arguments than its case takes, is told as a bad row.
 #![tactic(auto)]
 
+mod batches;
+mod builtins;
+mod entries;
 mod folder_rows;
 mod given;
+mod libraries;
+mod modules;
+mod quotas;
 mod texts;
 mod told;
+mod values;
+mod words;
 
 use folder_rows::FolderRows;
 use given::{RowFault, arguments};
-use jl_value::Value;
+use jl_lang::Lang;
+use jl_value::{TinyLibrary, Value};
 use std::alloc::Global;
 use std::io;
 use std::io::{BufRead, BufReader};
@@ -68,6 +77,15 @@ fn layer_row(
 ) -> Result<String, RowFault> {
     match layer {
         "texts" => texts::row(alloc, case, given),
+        "values" => values::row(alloc, case, given),
+        "tiny" => libraries::row(alloc, &mut TinyLibrary::new(alloc), case, given),
+        "language" => libraries::row(alloc, &mut Lang::new(alloc), case, given),
+        "modules" => modules::row(alloc, case, given),
+        "builtins" => builtins::row(alloc, case, given),
+        "batches" => batches::row(alloc, case, given),
+        "quotas" => quotas::row(alloc, case, given),
+        "words" => words::row(alloc, case, given),
+        "entries" => entries::row(alloc, case, given),
         "folder" => folders.row(alloc, case, given),
         _ => Err(RowFault::Bad),
     }

@@ -1,32 +1,99 @@
-// Rows over texts, names, paths and tokens.
+// Rows over texts, bytes, names, paths and tokens.
 
 use crate::given::{self, RowFault};
-use crate::told;
-use jl_text::{Path, PathFault, is_name, is_part};
+use crate::told::{self, Told};
+use jl_text::{Bytes, Path, PathFault, Token, TokenFault, is_name, is_part};
 use jl_value::Value;
 use std::alloc::Global;
 
-pub fn row(alloc: Global, case: &str, given: &[Value]) -> Result<String, RowFault> {
+pub fn row(alloc: Global, case: &str, given: &[Value]) -> Told {
     match case {
         "path" => read_path(alloc, given),
-        "is_part" => {
-            let text = given::text(alloc, given, 0)?;
-            Ok(told::truth(alloc, is_part(text.as_str()))?)
-        }
-        "is_name" => {
-            let text = given::text(alloc, given, 0)?;
-            Ok(told::truth(alloc, is_name(text.as_str()))?)
-        }
+        "current" => ends(alloc, &Path::current(alloc)),
+        "top" => ends(alloc, &Path::top(alloc)?),
+        "join" => join(alloc, given),
+        "is_part" => told::truth(alloc, is_part(given::text(alloc, given, 0)?.as_str())),
+        "is_name" => told::truth(alloc, is_name(given::text(alloc, given, 0)?.as_str())),
+        "token" => read_token(alloc, given),
+        "copies" => copies(alloc, given),
+        "extend" => extend(alloc, given),
         _ => Err(RowFault::Bad),
     }
 }
 
-// The spelling of a path, or why the text is none.
-fn read_path(alloc: Global, given: &[Value]) -> Result<String, RowFault> {
+// The spelling of a path, its parts, and whether the spelling reads as the same path.
+fn read_path(alloc: Global, given: &[Value]) -> Told {
     let text = given::text(alloc, given, 0)?;
-    match Path::read(alloc, text.as_str()) {
-        Ok(path) => Ok(told::text(alloc, path.text(alloc)?.as_str())?),
-        Err(PathFault::BadPath) => Ok(told::word(alloc, "BadPath")?),
-        Err(PathFault::Memory) => Err(RowFault::Memory),
+    let path = match Path::read(alloc, text.as_str()) {
+        Ok(path) => path,
+        Err(PathFault::BadPath) => return told::word(alloc, "BadPath"),
+        Err(PathFault::Memory) => return Err(RowFault::Memory),
+    };
+    let spelled = path.text(alloc)?;
+    let shown = told::text(alloc, spelled.as_str())?;
+    let again = match Path::read(alloc, spelled.as_str()) {
+        Ok(again) => path == again,
+        Err(_) => false,
+    };
+    Ok(format!(in alloc;
+        "{} parts: {}, again: {again}",
+        shown.as_str(),
+        path.parts().len()
+    )?)
+}
+
+// A path's spelling, its last part, and whether it has neither a last part nor a parent.
+fn ends(alloc: Global, path: &Path) -> Told {
+    let spelled = path.text(alloc)?;
+    let last = path.last().unwrap_or("none");
+    let fixed = path.is_fixed();
+    Ok(format!(in alloc; "{} last: {last}, fixed: {fixed}", spelled.as_str())?)
+}
+
+// A path joined with a part, and whether what stands before its last part is the path.
+fn join(alloc: Global, given: &[Value]) -> Told {
+    let path = given::path(alloc, given, 0)?;
+    let part = given::text(alloc, given, 1)?;
+    if !is_part(part.as_str()) {
+        return told::word(alloc, "no part");
     }
+    let joined = path.join(alloc, part.as_str())?;
+    let shown = ends(alloc, &joined)?;
+    let back = path.is(joined.parent_parts());
+    Ok(format!(in alloc; "{}, parent: {back}", shown.as_str())?)
+}
+
+fn read_token(alloc: Global, given: &[Value]) -> Told {
+    let text = given::text(alloc, given, 0)?;
+    match Token::read(alloc, text.as_str()) {
+        Ok(token) => told::text(alloc, token.as_str()),
+        Err(TokenFault::BadToken) => told::word(alloc, "BadToken"),
+        Err(TokenFault::Memory) => Err(RowFault::Memory),
+    }
+}
+
+// Whether the copies of a text, bytes, a path and a token equal them.
+fn copies(alloc: Global, given: &[Value]) -> Told {
+    let text = given::text(alloc, given, 0)?;
+    let bytes = Bytes::new(given::bytes(alloc, given, 1)?);
+    let path = given::path(alloc, given, 2)?;
+    let token = given::token(alloc, given, 3)?;
+    let texts = text.copy()? == text;
+    let pieces = bytes.copy()? == bytes;
+    let paths = path.copy()? == path;
+    let tokens = token.copy()? == token;
+    let back = told::text(alloc, text.into_string().as_str())?;
+    Ok(format!(in alloc; "{texts} {pieces} {paths} {tokens} {}", back.as_str())?)
+}
+
+// Bytes made longer, and whether they equal those before.
+fn extend(alloc: Global, given: &[Value]) -> Told {
+    let mut bytes = Bytes::new(given::bytes(alloc, given, 0)?);
+    let more = given::bytes(alloc, given, 1)?;
+    let before = bytes.copy()?;
+    bytes.extend(more.as_slice())?;
+    let same = before == bytes;
+    let shown = told::bytes(alloc, bytes.as_slice())?;
+    let length = bytes.into_vec().len();
+    Ok(format!(in alloc; "{} length: {length}, same: {same}", shown.as_str())?)
 }

@@ -1,0 +1,95 @@
+// Rows over the libraries: modules, their codes and their calls, by the trait alone.
+
+use crate::given::{self, RowFault};
+use crate::told::{self, Told};
+use jl_value::{Args, Called, CodeRef, Library, Outcome, ReadModule, Value};
+use std::alloc::Global;
+
+pub fn row<L: Library + Drop>(alloc: Global, library: &mut L, case: &str, given: &[Value]) -> Told {
+    match case {
+        "read" => read(alloc, library, given),
+        "call" => call(alloc, library, given),
+        "code" => code(alloc, library, given),
+        "twin" => twin(alloc, library, given),
+        _ => Err(RowFault::Bad),
+    }
+}
+
+fn told_module(alloc: Global, read: ReadModule) -> Told {
+    match read {
+        ReadModule::Read => told::word(alloc, "Read"),
+        ReadModule::Fault(fault) => told::module_fault(alloc, fault),
+        ReadModule::NoMemory => Err(RowFault::Memory),
+    }
+}
+
+// What comes of the modules, read one after another.
+fn read<L: Library>(alloc: Global, library: &mut L, modules: &[Value]) -> Told {
+    let mut told = String::new(alloc);
+    for place in 0..modules.len() {
+        let bytes = given::bytes(alloc, modules, place)?;
+        let line = told_module(alloc, library.read_module(alloc, bytes.as_slice()))?;
+        if place > 0 {
+            told.push_str("\n")?;
+        }
+        told.push_str(line.as_str())?;
+    }
+    Ok(told)
+}
+
+// A name's code after all modules were read.
+fn code<L: Library>(alloc: Global, library: &mut L, given: &[Value]) -> Told {
+    let [_, modules @ ..] = given else {
+        return Err(RowFault::Bad);
+    };
+    let _read = read(alloc, library, modules)?;
+    told_code(alloc, library, given)
+}
+
+// The same of a twin.
+fn twin<L: Library + Drop>(alloc: Global, library: &mut L, given: &[Value]) -> Told {
+    let [_, modules @ ..] = given else {
+        return Err(RowFault::Bad);
+    };
+    let _read = read(alloc, library, modules)?;
+    told_code(alloc, &library.twin(alloc)?, given)
+}
+
+fn told_code<L: Library>(alloc: Global, library: &L, given: &[Value]) -> Told {
+    let name = given::text(alloc, given, 0)?;
+    match library.code_of(name.as_str()) {
+        Some(CodeRef { code, line }) => {
+            let shown = told::text(alloc, code)?;
+            Ok(format!(in alloc; "{} line: {line}", shown.as_str())?)
+        }
+        None => told::word(alloc, "no code"),
+    }
+}
+
+// What a name answers on arguments after all modules were read.
+fn call<L: Library>(alloc: Global, library: &mut L, given: &[Value]) -> Told {
+    let [_, _, modules @ ..] = given else {
+        return Err(RowFault::Bad);
+    };
+    let _read = read(alloc, library, modules)?;
+    let name = given::text(alloc, given, 0)?;
+    let args = given::table(alloc, given, 1)?;
+    told_call(alloc, library, name.as_str(), &args)
+}
+
+fn told_call<L: Library>(alloc: Global, library: &mut L, name: &str, args: &Args) -> Told {
+    if library.code_of(name).is_none() {
+        return told::word(alloc, "no code");
+    }
+    match library.call(alloc, name, args) {
+        Called::Done(outcome) => told_outcome(alloc, outcome),
+        Called::NoMemory => Err(RowFault::Memory),
+    }
+}
+
+fn told_outcome(alloc: Global, outcome: Outcome) -> Told {
+    match outcome {
+        Outcome::Value(value) => told::value(alloc, &value),
+        Outcome::Error(error) => told::word(alloc, error.name()),
+    }
+}

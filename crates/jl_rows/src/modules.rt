@@ -1,0 +1,93 @@
+// Rows over the lines of the definition language.
+
+use crate::given::{self, RowFault};
+use crate::told::{self, Told};
+use jl_module::{Definition, LineFault, find, module_fault, read_definition};
+use jl_syntax::Node;
+use jl_value::Value;
+use std::alloc::Global;
+
+pub fn row(alloc: Global, case: &str, given: &[Value]) -> Told {
+    match case {
+        "line" => line(alloc, given),
+        "fault" => fault(alloc, given),
+        "find" => found(alloc, given),
+        _ => Err(RowFault::Bad),
+    }
+}
+
+// What a line defines, or why it is no definition.
+fn line(alloc: Global, given: &[Value]) -> Told {
+    let line = given::bytes(alloc, given, 0)?;
+    match read_definition(alloc, line.as_slice()) {
+        Ok(definition) => told_definition(alloc, &definition),
+        Err(LineFault::Faulty(kind)) => told::word(alloc, kind.name()),
+        Err(LineFault::Memory) => Err(RowFault::Memory),
+    }
+}
+
+// A definition's name and parameters, the height of its tree, and what its list or table has.
+fn told_definition(alloc: Global, definition: &Definition) -> Told {
+    let mut told = told::bytes(alloc, definition.name)?;
+    for parameter in definition.parameters.as_slice() {
+        told.push_str(" ")?;
+        told.push_str(told::bytes(alloc, parameter)?.as_str())?;
+    }
+    let height = definition.body.height();
+    write!(told, " height: {height}")?;
+    told.push_str(told_members(alloc, definition.body.node())?.as_str())?;
+    Ok(told)
+}
+
+// How many members a list or a table has, and a table's first key.
+fn told_members(alloc: Global, node: &Node) -> Told {
+    match node {
+        Node::Listed(members) => {
+            let count = members.as_slice().len();
+            Ok(format!(in alloc; ", members: {count}")?)
+        }
+        Node::Tabled(entries) => match entries.as_slice() {
+            [] => told::word(alloc, ", members: 0"),
+            [(key, member), ..] => {
+                let key = told::text(alloc, key.text().as_str())?;
+                let variable = told_variable(alloc, member.node())?;
+                let count = entries.as_slice().len();
+                Ok(format!(in alloc; ", members: {count}, {}{}", key.as_str(), variable.as_str())?)
+            }
+        },
+        _ => Ok(String::new(alloc)),
+    }
+}
+
+// The variable of a list by `for`.
+fn told_variable(alloc: Global, node: &Node) -> Told {
+    match node {
+        Node::Each(_, variable, _) => {
+            let name = told::bytes(alloc, variable.bytes())?;
+            Ok(format!(in alloc; " by {}", name.as_str())?)
+        }
+        _ => Ok(String::new(alloc)),
+    }
+}
+
+// The first fault of a module.
+fn fault(alloc: Global, given: &[Value]) -> Told {
+    let module = given::bytes(alloc, given, 0)?;
+    match module_fault(alloc, module.as_slice())? {
+        Some(fault) => told::module_fault(alloc, fault),
+        None => told::word(alloc, "none"),
+    }
+}
+
+// The code of a name in a module.
+fn found(alloc: Global, given: &[Value]) -> Told {
+    let module = given::bytes(alloc, given, 0)?;
+    let name = given::bytes(alloc, given, 1)?;
+    match find(module.as_slice(), name.as_slice()) {
+        Some((code, line)) => {
+            let shown = told::text(alloc, code)?;
+            Ok(format!(in alloc; "{} line: {line}", shown.as_str())?)
+        }
+        None => told::word(alloc, "none"),
+    }
+}
