@@ -15,7 +15,10 @@ pub fn row(alloc: Global, case: &str, given: &[Value]) -> Told {
         "is_part" => told::truth(alloc, is_part(given::text(alloc, given, 0)?.as_str())),
         "is_name" => told::truth(alloc, is_name(given::text(alloc, given, 0)?.as_str())),
         "token" => read_token(alloc, given),
-        "copies" => copies(alloc, given),
+        "text_copy" => copied_text(alloc, given),
+        "bytes_copy" => copied_bytes(alloc, given),
+        "path_copy" => copied_path(alloc, given),
+        "token_copy" => copied_token(alloc, given),
         "extend" => extend(alloc, given),
         _ => Err(RowFault::Bad),
     }
@@ -72,18 +75,28 @@ fn read_token(alloc: Global, given: &[Value]) -> Told {
     }
 }
 
-// Whether the copies of a text, bytes, a path and a token equal them.
-fn copies(alloc: Global, given: &[Value]) -> Told {
+// A text taken out of its copy, and whether the copy equals it.
+fn copied_text(alloc: Global, given: &[Value]) -> Told {
     let text = given::text(alloc, given, 0)?;
-    let bytes = Bytes::new(given::bytes(alloc, given, 1)?);
-    let path = given::path(alloc, given, 2)?;
-    let token = given::token(alloc, given, 3)?;
-    let texts = text.copy()? == text;
-    let pieces = bytes.copy()? == bytes;
-    let paths = path.copy()? == path;
-    let tokens = token.copy()? == token;
-    let back = told::text(alloc, text.into_string().as_str())?;
-    Ok(format!(in alloc; "{texts} {pieces} {paths} {tokens} {}", back.as_str())?)
+    let copy = text.copy()?;
+    let same = copy == text;
+    let shown = told::text(alloc, copy.into_string().as_str())?;
+    Ok(format!(in alloc; "{} same: {same}", shown.as_str())?)
+}
+
+fn copied_bytes(alloc: Global, given: &[Value]) -> Told {
+    let bytes = Bytes::new(given::bytes(alloc, given, 0)?);
+    told::truth(alloc, bytes.copy()? == bytes)
+}
+
+fn copied_path(alloc: Global, given: &[Value]) -> Told {
+    let path = given::path(alloc, given, 0)?;
+    told::truth(alloc, path.copy()? == path)
+}
+
+fn copied_token(alloc: Global, given: &[Value]) -> Told {
+    let token = given::token(alloc, given, 0)?;
+    told::truth(alloc, token.copy()? == token)
 }
 
 // Bytes made longer, and whether they equal those before.
