@@ -2,7 +2,6 @@
 
 ghost use Rattle.std.specs.Prelude.{◌≤◌, IfOk, IsTrue};
 ghost use Rattle.jl_text.specs.Texts.{is_name};
-ghost use Rattle.jl_entry.specs.Moments.{IsMoment};
 
 use crate::given::{self, RowFault};
 use crate::told::{self, Told};
@@ -67,7 +66,7 @@ fn read(alloc: Global, given: &[Value]) -> Told {
 }
 
 fn moment(given: &[Value], place: usize) -> Result<u64, RowFault>
-    ensures { IfOk result IsMoment }
+    ensures { IfOk result (λ moment. moment ≤ 4611686018427387904) }
 {
     let moment = given::number(given, place)?;
     if moment > LATEST {

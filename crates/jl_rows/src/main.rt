@@ -6,7 +6,6 @@
 #![tactic(auto)]
 
 mod batches;
-mod builtins;
 mod entries;
 mod folder_rows;
 mod given;
@@ -81,7 +80,6 @@ fn layer_row(
         "tiny" => libraries::row(alloc, &mut TinyLibrary::new(alloc), case, given),
         "language" => libraries::row(alloc, &mut Lang::new(alloc), case, given),
         "modules" => modules::row(alloc, case, given),
-        "builtins" => builtins::row(alloc, case, given),
         "batches" => batches::row(alloc, case, given),
         "quotas" => quotas::row(alloc, case, given),
         "words" => words::row(alloc, case, given),
