@@ -2,7 +2,7 @@
 
 use crate::given::{self, RowFault};
 use crate::told::{self, Told};
-use jl_batch::{Auto, PreDispatchFault, Step, Window, effective_jobs, read_pre_dispatch, replay};
+use jl_batch::{Auto, Step, Window, effective_jobs, read_pre_dispatch, replay};
 use jl_value::Value;
 use std::alloc::Global;
 
@@ -17,11 +17,9 @@ pub fn row(alloc: Global, case: &str, given: &[Value]) -> Told {
 }
 
 fn jobs(alloc: Global, given: &[Value]) -> Told {
-    let asked = given::whole(given, 0)?;
-    let processors = given::small_number(given, 1)?;
-    match effective_jobs(asked, processors) {
+    match effective_jobs(given::whole(given, 0)?, given::small_number(given, 1)?) {
         Ok(jobs) => Ok(format!(in alloc; "{jobs}")?),
-        Err(_) => told::word(alloc, "ZeroJobs"),
+        Err(fault) => Ok(format!(in alloc; "{fault:?}")?),
     }
 }
 
@@ -73,19 +71,12 @@ fn sizes(alloc: Global, given: &[Value]) -> Told {
     Ok(told)
 }
 
-pub fn told_window(alloc: Global, window: Window) -> Told {
-    match window {
-        Window::All => told::word(alloc, "all"),
-        Window::Tasks(tasks) => Ok(format!(in alloc; "{tasks}")?),
-    }
-}
-
 // The window that a text asks for with so many jobs.
 fn window(alloc: Global, given: &[Value]) -> Told {
     let text = given::text(alloc, given, 0)?;
     match read_pre_dispatch(text.as_str(), given::small_number(given, 1)?) {
-        Ok(window) => told_window(alloc, window),
-        Err(PreDispatchFault::BadExpression) => told::word(alloc, "BadExpression"),
-        Err(PreDispatchFault::BelowOne) => told::word(alloc, "BelowOne"),
+        Ok(Window::All) => told::word(alloc, "all"),
+        Ok(Window::Tasks(tasks)) => Ok(format!(in alloc; "{tasks}")?),
+        Err(fault) => Ok(format!(in alloc; "{fault:?}")?),
     }
 }

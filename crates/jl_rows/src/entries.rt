@@ -6,13 +6,13 @@ ghost use Rattle.jl_text.specs.Texts.{is_name};
 use crate::given::{self, RowFault};
 use crate::told::{self, Told};
 use jl_entry::{
-    EntryFile, Metadata, ReadOutput, code_file, entry_file, entry_folder, function_folder,
-    module_folder, read_access, read_metadata, read_output, root, same_code, temp_name,
-    write_access, write_code, write_metadata, write_output,
+    EntryFile, ReadOutput, code_file, entry_file, entry_folder, function_folder, module_folder,
+    read_access, read_metadata, read_output, root, same_code, temp_name, write_access, write_code,
+    write_metadata, write_output,
 };
-use jl_text::{Path, Text, is_name};
+use jl_text::{Path, is_name};
 use jl_value::{Key, Value, digest};
-use std::alloc::Global;
+use std::alloc::{AllocError, Global};
 
 /// The latest moment, and the longest duration.
 const LATEST: u64 = 4_611_686_018_427_387_904;
@@ -21,21 +21,11 @@ pub fn row(alloc: Global, case: &str, given: &[Value]) -> Told {
     match case {
         "write" => write(alloc, given),
         "read" => read(alloc, given),
-        "write_access" => access(alloc, given),
-        "read_access" => told::number(
-            alloc,
-            read_access(given::bytes(alloc, given, 0)?.as_slice()),
-        ),
-        "write_metadata" => metadata(alloc, given),
-        "read_metadata" => told_metadata(alloc, given),
+        "write_moments" => moments(alloc, given),
+        "read_moments" => read_moments(alloc, given),
         "write_code" => code(alloc, given),
         "same_code" => is_same_code(alloc, given),
-        "root" => root_folder(alloc, given),
-        "module_folder" => folder_of_module(alloc, given),
-        "function_folder" => folder_of_function(alloc, given),
-        "code_file" => file_of_code(alloc, given),
-        "entry_folder" => folder_of_entry(alloc, given),
-        "entry_file" => file_of_entry(alloc, given),
+        "names" => names(alloc, given),
         "temporary" => temporary(alloc, given),
         _ => Err(RowFault::Bad),
     }
@@ -75,24 +65,21 @@ fn moment(given: &[Value], place: usize) -> Result<u64, RowFault>
     Ok(moment)
 }
 
-fn access(alloc: Global, given: &[Value]) -> Told {
-    told::bytes(alloc, write_access(alloc, moment(given, 0)?)?.as_slice())
-}
-
-fn metadata(alloc: Global, given: &[Value]) -> Told {
+// The texts of a latest use and of metadata, for a duration and a moment.
+fn moments(alloc: Global, given: &[Value]) -> Told {
     let duration = moment(given, 0)?;
     let time = moment(given, 1)?;
-    told::bytes(alloc, write_metadata(alloc, duration, time)?.as_slice())
+    let access = told::bytes(alloc, write_access(alloc, time)?.as_slice())?;
+    let metadata = told::bytes(alloc, write_metadata(alloc, duration, time)?.as_slice())?;
+    Ok(format!(in alloc; "{}\n{}", access.as_str(), metadata.as_str())?)
 }
 
-fn told_metadata(alloc: Global, given: &[Value]) -> Told {
+// The moment and the metadata that bytes are for.
+fn read_moments(alloc: Global, given: &[Value]) -> Told {
     let bytes = given::bytes(alloc, given, 0)?;
-    match read_metadata(bytes.as_slice()) {
-        Some(Metadata { duration, time }) => {
-            Ok(format!(in alloc; "duration: {duration}, time: {time}")?)
-        }
-        None => told::word(alloc, "none"),
-    }
+    let access = read_access(bytes.as_slice());
+    let metadata = read_metadata(bytes.as_slice());
+    Ok(format!(in alloc; "{access:?} {metadata:?}")?)
 }
 
 fn code(alloc: Global, given: &[Value]) -> Told {
@@ -110,85 +97,77 @@ fn is_same_code(alloc: Global, given: &[Value]) -> Told {
     told::truth(alloc, same_code(code.as_str(), bytes.as_slice()))
 }
 
-fn name(alloc: Global, given: &[Value], place: usize) -> Result<Text, RowFault>
-    ensures { IfOk result (λ t. IsTrue (is_name t)) }
-{
-    let text = given::text(alloc, given, place)?;
-    if !is_name(text.as_str()) {
+fn add_path(
+    alloc: Global,
+    told: &mut String,
+    made: Result<Path, AllocError>,
+) -> Result<(), RowFault> {
+    if !told.is_empty() {
+        told.push_str("\n")?;
+    }
+    told.push_str(made?.text(alloc)?.as_str())?;
+    Ok(())
+}
+
+// The folders of a location, a module, a function and an entry, and the files of a function and an entry.
+fn names(alloc: Global, given: &[Value]) -> Told {
+    let location = given::path(alloc, given, 0)?;
+    let module = given::text(alloc, given, 1)?;
+    let function = given::text(alloc, given, 2)?;
+    let key = digest(alloc, &given::args(alloc, given, 3)?)?;
+    let (module, function) = (module.as_str(), function.as_str());
+    if !is_name(module) || !is_name(function) {
         return Err(RowFault::Bad);
     }
-    Ok(text)
+    let folders = folders(alloc, &location, module, function, &key)?;
+    let files = files(alloc, &location, module, function, &key)?;
+    Ok(format!(in alloc; "{}\n{}", folders.as_str(), files.as_str())?)
 }
 
-fn told_path(alloc: Global, path: &Path) -> Told {
-    Ok(path.text(alloc)?.into_string())
+fn folders(alloc: Global, location: &Path, module: &str, function: &str, key: &Key) -> Told
+    requires module_name { IsTrue (is_name «module».now) }
+    requires function_name { IsTrue (is_name function.now) }
+{
+    let mut told = String::new(alloc);
+    add_path(alloc, &mut told, root(alloc, location))?;
+    add_path(alloc, &mut told, module_folder(alloc, location, module))?;
+    add_path(
+        alloc,
+        &mut told,
+        function_folder(alloc, location, module, function),
+    )?;
+    add_path(
+        alloc,
+        &mut told,
+        entry_folder(alloc, location, module, function, key),
+    )?;
+    Ok(told)
 }
 
-fn root_folder(alloc: Global, given: &[Value]) -> Told {
-    let location = given::path(alloc, given, 0)?;
-    told_path(alloc, &root(alloc, &location)?)
-}
-
-fn folder_of_module(alloc: Global, given: &[Value]) -> Told {
-    let location = given::path(alloc, given, 0)?;
-    let module = name(alloc, given, 1)?;
-    told_path(alloc, &module_folder(alloc, &location, module.as_str())?)
-}
-
-fn folder_of_function(alloc: Global, given: &[Value]) -> Told {
-    let location = given::path(alloc, given, 0)?;
-    let module = name(alloc, given, 1)?;
-    let function = name(alloc, given, 2)?;
-    let folder = function_folder(alloc, &location, module.as_str(), function.as_str())?;
-    told_path(alloc, &folder)
-}
-
-fn file_of_code(alloc: Global, given: &[Value]) -> Told {
-    let location = given::path(alloc, given, 0)?;
-    let module = name(alloc, given, 1)?;
-    let function = name(alloc, given, 2)?;
-    let file = code_file(alloc, &location, module.as_str(), function.as_str())?;
-    told_path(alloc, &file)
-}
-
-// The key of arguments.
-fn key(alloc: Global, given: &[Value], place: usize) -> Result<Key, RowFault> {
-    let args = given::args(alloc, given, place)?;
-    Ok(digest(alloc, &args)?)
-}
-
-fn folder_of_entry(alloc: Global, given: &[Value]) -> Told {
-    let location = given::path(alloc, given, 0)?;
-    let module = name(alloc, given, 1)?;
-    let function = name(alloc, given, 2)?;
-    let key = key(alloc, given, 3)?;
-    let folder = entry_folder(alloc, &location, module.as_str(), function.as_str(), &key)?;
-    told_path(alloc, &folder)
-}
-
-fn entry_file_named(alloc: Global, given: &[Value], place: usize) -> Result<EntryFile, RowFault> {
-    match given::text(alloc, given, place)?.as_str() {
-        "output" => Ok(EntryFile::Output),
-        "metadata" => Ok(EntryFile::Metadata),
-        "access" => Ok(EntryFile::Access),
-        _ => Err(RowFault::Bad),
+fn files(alloc: Global, location: &Path, module: &str, function: &str, key: &Key) -> Told
+    requires module_name { IsTrue (is_name «module».now) }
+    requires function_name { IsTrue (is_name function.now) }
+{
+    let mut told = String::new(alloc);
+    add_path(
+        alloc,
+        &mut told,
+        code_file(alloc, location, module, function),
+    )?;
+    for file in [EntryFile::Output, EntryFile::Metadata, EntryFile::Access] {
+        add_path(
+            alloc,
+            &mut told,
+            entry_file(alloc, file, location, module, function, key),
+        )?;
     }
-}
-
-fn file_of_entry(alloc: Global, given: &[Value]) -> Told {
-    let location = given::path(alloc, given, 0)?;
-    let module = name(alloc, given, 1)?;
-    let function = name(alloc, given, 2)?;
-    let key = key(alloc, given, 3)?;
-    let file = entry_file_named(alloc, given, 4)?;
-    let (module, function) = (module.as_str(), function.as_str());
-    let path = entry_file(alloc, file, &location, module, function, &key)?;
-    told_path(alloc, &path)
+    Ok(told)
 }
 
 // The temporary name of a path for a token.
 fn temporary(alloc: Global, given: &[Value]) -> Told {
     let path = given::path(alloc, given, 0)?;
     let token = given::token(alloc, given, 1)?;
-    told_path(alloc, &temp_name(alloc, &path, &token)?)
+    let temporary = temp_name(alloc, &path, &token)?.text(alloc)?;
+    told::word(alloc, temporary.as_str())
 }

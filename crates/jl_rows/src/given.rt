@@ -78,12 +78,6 @@ pub fn whole(given: &[Value], place: usize) -> Result<i64, RowFault> {
     }
 }
 
-/// The arguments that a table of the row is.
-pub fn table(alloc: Global, given: &[Value], place: usize) -> Result<Args, RowFault> {
-    let value = argument(given, place)?.copy(alloc)?;
-    Args::from_value(value).ok().ok_or(RowFault::Bad)
-}
-
 /// Bytes: a text, `{"hex": DIGITS}`, `{"repeat": [TEXT, COUNT]}`, or `{"join": [..]}` of these.
 pub fn bytes(alloc: Global, given: &[Value], place: usize) -> Result<Vec<u8>, RowFault> {
     let value = argument(given, place)?;
@@ -172,18 +166,12 @@ fn add_alone(alloc: Global, out: &mut Vec<u8>, part: &Value) -> Result<(), RowFa
         out.extend_from_slice(text.as_str().as_bytes())?;
         return Ok(());
     }
-    match alone_at(part, "hex") {
-        Some(Value::Text(digits)) => add_hex(alloc, out, digits.as_str()),
-        _ => Err(RowFault::Bad),
-    }
-}
-
-fn add_hex(alloc: Global, out: &mut Vec<u8>, digits: &str) -> Result<(), RowFault> {
-    match hex::decode(alloc, digits) {
-        Ok(bytes) => {
-            out.extend_from_slice(bytes.as_slice())?;
-            Ok(())
-        }
-        Err(_) => Err(RowFault::Bad),
-    }
+    let Some(Value::Text(digits)) = alone_at(part, "hex") else {
+        return Err(RowFault::Bad);
+    };
+    let bytes = hex::decode(alloc, digits.as_str())
+        .ok()
+        .ok_or(RowFault::Bad)?;
+    out.extend_from_slice(bytes.as_slice())?;
+    Ok(())
 }

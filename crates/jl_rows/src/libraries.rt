@@ -10,7 +10,6 @@ pub fn row<L: Library + Drop>(alloc: Global, library: &mut L, case: &str, given:
         "read" => read(alloc, library, given),
         "call" => call(alloc, library, given),
         "code" => code(alloc, library, given),
-        "twin" => twin(alloc, library, given),
         _ => Err(RowFault::Bad),
     }
 }
@@ -37,44 +36,36 @@ fn read<L: Library>(alloc: Global, library: &mut L, modules: &[Value]) -> Told {
     Ok(told)
 }
 
-// A name's code after all modules were read.
-fn code<L: Library>(alloc: Global, library: &mut L, given: &[Value]) -> Told {
+// A name's code after all modules were read, and what a twin says of it.
+fn code<L: Library + Drop>(alloc: Global, library: &mut L, given: &[Value]) -> Told {
     let [_, modules @ ..] = given else {
         return Err(RowFault::Bad);
     };
     let _read = read(alloc, library, modules)?;
-    told_code(alloc, library, given)
-}
-
-// The same of a twin.
-fn twin<L: Library + Drop>(alloc: Global, library: &mut L, given: &[Value]) -> Told {
-    let [_, modules @ ..] = given else {
-        return Err(RowFault::Bad);
-    };
-    let _read = read(alloc, library, modules)?;
-    told_code(alloc, &library.twin(alloc)?, given)
-}
-
-fn told_code<L: Library>(alloc: Global, library: &L, given: &[Value]) -> Told {
     let name = given::text(alloc, given, 0)?;
-    match library.code_of(name.as_str()) {
-        Some(CodeRef { code, line }) => {
-            let shown = told::text(alloc, code)?;
-            Ok(format!(in alloc; "{} line: {line}", shown.as_str())?)
-        }
+    let own = told_code(alloc, library, name.as_str())?;
+    let twin = told_code(alloc, &library.twin(alloc)?, name.as_str())?;
+    Ok(format!(in alloc; "{}\n{}", own.as_str(), twin.as_str())?)
+}
+
+fn told_code<L: Library>(alloc: Global, library: &L, name: &str) -> Told {
+    match library.code_of(name) {
+        Some(CodeRef { code, line }) => told::code(alloc, code, line),
         None => told::word(alloc, "no code"),
     }
 }
 
 // What a name answers on arguments after all modules were read.
 fn call<L: Library>(alloc: Global, library: &mut L, given: &[Value]) -> Told {
-    let [_, _, modules @ ..] = given else {
+    let [_, table, modules @ ..] = given else {
         return Err(RowFault::Bad);
     };
     let _read = read(alloc, library, modules)?;
     let name = given::text(alloc, given, 0)?;
-    let args = given::table(alloc, given, 1)?;
-    told_call(alloc, library, name.as_str(), &args)
+    match Args::from_value(table.copy(alloc)?) {
+        Ok(args) => told_call(alloc, library, name.as_str(), &args),
+        Err(_) => Err(RowFault::Bad),
+    }
 }
 
 fn told_call<L: Library>(alloc: Global, library: &mut L, name: &str, args: &Args) -> Told {
@@ -82,14 +73,8 @@ fn told_call<L: Library>(alloc: Global, library: &mut L, name: &str, args: &Args
         return told::word(alloc, "no code");
     }
     match library.call(alloc, name, args) {
-        Called::Done(outcome) => told_outcome(alloc, outcome),
+        Called::Done(Outcome::Value(value)) => told::value(alloc, &value),
+        Called::Done(Outcome::Error(error)) => told::word(alloc, error.name()),
         Called::NoMemory => Err(RowFault::Memory),
-    }
-}
-
-fn told_outcome(alloc: Global, outcome: Outcome) -> Told {
-    match outcome {
-        Outcome::Value(value) => told::value(alloc, &value),
-        Outcome::Error(error) => told::word(alloc, error.name()),
     }
 }

@@ -39,7 +39,7 @@ fn told_definition(alloc: Global, definition: &Definition) -> Told {
     Ok(told)
 }
 
-// How many members a list or a table has, and a table's first key.
+// How many members a list or a table has, a table's first key, and the variable of the list by `for` there.
 fn told_members(alloc: Global, node: &Node) -> Told {
     match node {
         Node::Listed(members) => {
@@ -49,23 +49,16 @@ fn told_members(alloc: Global, node: &Node) -> Told {
         Node::Tabled(entries) => match entries.as_slice() {
             [] => told::word(alloc, ", members: 0"),
             [(key, member), ..] => {
-                let key = told::text(alloc, key.text().as_str())?;
-                let variable = told_variable(alloc, member.node())?;
                 let count = entries.as_slice().len();
-                Ok(format!(in alloc; ", members: {count}, {}{}", key.as_str(), variable.as_str())?)
+                let mut told = format!(in alloc; ", members: {count}, ")?;
+                told.push_str(told::text(alloc, key.text().as_str())?.as_str())?;
+                if let Node::Each(_, variable, _) = member.node() {
+                    told.push_str(" by ")?;
+                    told.push_str(told::bytes(alloc, variable.bytes())?.as_str())?;
+                }
+                Ok(told)
             }
         },
-        _ => Ok(String::new(alloc)),
-    }
-}
-
-// The variable of a list by `for`.
-fn told_variable(alloc: Global, node: &Node) -> Told {
-    match node {
-        Node::Each(_, variable, _) => {
-            let name = told::bytes(alloc, variable.bytes())?;
-            Ok(format!(in alloc; " by {}", name.as_str())?)
-        }
         _ => Ok(String::new(alloc)),
     }
 }
@@ -84,10 +77,7 @@ fn found(alloc: Global, given: &[Value]) -> Told {
     let module = given::bytes(alloc, given, 0)?;
     let name = given::bytes(alloc, given, 1)?;
     match find(module.as_slice(), name.as_slice()) {
-        Some((code, line)) => {
-            let shown = told::text(alloc, code)?;
-            Ok(format!(in alloc; "{} line: {line}", shown.as_str())?)
-        }
+        Some((code, line)) => told::code(alloc, code, line),
         None => told::word(alloc, "none"),
     }
 }

@@ -2,7 +2,7 @@
 
 use crate::given::{self, RowFault};
 use crate::told::{self, Told};
-use jl_text::{Bytes, Path, PathFault, Token, TokenFault, is_name, is_part};
+use jl_text::{Bytes, Path, Token, is_name, is_part};
 use jl_value::Value;
 use std::alloc::Global;
 
@@ -15,10 +15,7 @@ pub fn row(alloc: Global, case: &str, given: &[Value]) -> Told {
         "is_part" => told::truth(alloc, is_part(given::text(alloc, given, 0)?.as_str())),
         "is_name" => told::truth(alloc, is_name(given::text(alloc, given, 0)?.as_str())),
         "token" => read_token(alloc, given),
-        "text_copy" => copied_text(alloc, given),
-        "bytes_copy" => copied_bytes(alloc, given),
-        "path_copy" => copied_path(alloc, given),
-        "token_copy" => copied_token(alloc, given),
+        "copy" => copy(alloc, given),
         "extend" => extend(alloc, given),
         _ => Err(RowFault::Bad),
     }
@@ -29,19 +26,19 @@ fn read_path(alloc: Global, given: &[Value]) -> Told {
     let text = given::text(alloc, given, 0)?;
     let path = match Path::read(alloc, text.as_str()) {
         Ok(path) => path,
-        Err(PathFault::BadPath) => return told::word(alloc, "BadPath"),
-        Err(PathFault::Memory) => return Err(RowFault::Memory),
+        Err(fault) => return Ok(format!(in alloc; "{fault:?}")?),
     };
     let spelled = path.text(alloc)?;
     let shown = told::text(alloc, spelled.as_str())?;
+    let parts = path.parts().len();
     let again = match Path::read(alloc, spelled.as_str()) {
-        Ok(again) => path == again,
+        Ok(again) => again == path,
         Err(_) => false,
     };
+    let copy = path.copy()? == path;
     Ok(format!(in alloc;
-        "{} parts: {}, again: {again}",
-        shown.as_str(),
-        path.parts().len()
+        "{} parts: {parts}, again: {again}, copy: {copy}",
+        shown.as_str()
     )?)
 }
 
@@ -69,44 +66,36 @@ fn join(alloc: Global, given: &[Value]) -> Told {
 fn read_token(alloc: Global, given: &[Value]) -> Told {
     let text = given::text(alloc, given, 0)?;
     match Token::read(alloc, text.as_str()) {
-        Ok(token) => told::text(alloc, token.as_str()),
-        Err(TokenFault::BadToken) => told::word(alloc, "BadToken"),
-        Err(TokenFault::Memory) => Err(RowFault::Memory),
+        Ok(token) => {
+            let shown = told::text(alloc, token.as_str())?;
+            let copy = token.copy()? == token;
+            Ok(format!(in alloc; "{} copy: {copy}", shown.as_str())?)
+        }
+        Err(fault) => Ok(format!(in alloc; "{fault:?}")?),
     }
 }
 
-// A text taken out of its copy, and whether the copy equals it.
-fn copied_text(alloc: Global, given: &[Value]) -> Told {
+// The text of a copy, and whether it equals its source.
+fn copy(alloc: Global, given: &[Value]) -> Told {
     let text = given::text(alloc, given, 0)?;
     let copy = text.copy()?;
     let same = copy == text;
     let shown = told::text(alloc, copy.into_string().as_str())?;
-    Ok(format!(in alloc; "{} same: {same}", shown.as_str())?)
+    Ok(format!(in alloc; "{} copy: {same}", shown.as_str())?)
 }
 
-fn copied_bytes(alloc: Global, given: &[Value]) -> Told {
-    let bytes = Bytes::new(given::bytes(alloc, given, 0)?);
-    told::truth(alloc, bytes.copy()? == bytes)
-}
-
-fn copied_path(alloc: Global, given: &[Value]) -> Told {
-    let path = given::path(alloc, given, 0)?;
-    told::truth(alloc, path.copy()? == path)
-}
-
-fn copied_token(alloc: Global, given: &[Value]) -> Told {
-    let token = given::token(alloc, given, 0)?;
-    told::truth(alloc, token.copy()? == token)
-}
-
-// Bytes made longer, and whether they equal those before.
+// Bytes made longer, and whether a copy equals them, before and after.
 fn extend(alloc: Global, given: &[Value]) -> Told {
     let mut bytes = Bytes::new(given::bytes(alloc, given, 0)?);
     let more = given::bytes(alloc, given, 1)?;
-    let before = bytes.copy()?;
+    let copy = bytes.copy()?;
+    let before = copy == bytes;
     bytes.extend(more.as_slice())?;
-    let same = before == bytes;
+    let after = copy == bytes;
     let shown = told::bytes(alloc, bytes.as_slice())?;
     let length = bytes.into_vec().len();
-    Ok(format!(in alloc; "{} length: {length}, same: {same}", shown.as_str())?)
+    Ok(format!(in alloc;
+        "{} length: {length}, copy: {before} {after}",
+        shown.as_str()
+    )?)
 }

@@ -1,4 +1,4 @@
-// What is told of a result: values as JSON, bytes that are no text as their digits, and the length and MD5 of what is long.
+// What is told of a result: values as JSON, bytes that are no text as digits, the length and MD5 of what is long.
 
 use crate::given::RowFault;
 use jl_text::Text;
@@ -12,29 +12,25 @@ pub type Told = Result<String, RowFault>;
 /// How many bytes of a result are told as they are.
 const LONGEST: usize = 400;
 
-fn measured(alloc: Global, bytes: &[u8]) -> Told {
-    let digits = hex::encode(alloc, Md5::digest(bytes).as_slice())?;
-    Ok(format!(in alloc; "{} bytes, MD5 {digits}", bytes.len())?)
-}
-
-/// A text that is JSON already.
-pub fn shortened(alloc: Global, text: Text) -> Told {
-    if text.as_str().len() > LONGEST {
-        return measured(alloc, text.as_str().as_bytes());
+/// A text as it is, or its length and MD5.
+fn shorten(alloc: Global, text: &str) -> Told {
+    if text.len() > LONGEST {
+        let digits = hex::encode(alloc, Md5::digest(text.as_bytes()).as_slice())?;
+        return Ok(format!(in alloc; "{} bytes, MD5 {digits}", text.len())?);
     }
-    Ok(text.into_string())
+    word(alloc, text)
 }
 
 pub fn value(alloc: Global, value: &Value) -> Told {
-    shortened(alloc, canonical(alloc, value)?)
+    shorten(alloc, canonical(alloc, value)?.as_str())
 }
 
 pub fn text(alloc: Global, text: &str) -> Told {
     if text.len() > LONGEST {
-        return measured(alloc, text.as_bytes());
+        return shorten(alloc, text);
     }
     let copy = Text::new(String::from_str(alloc, text)?);
-    Ok(canonical(alloc, &Value::Text(copy))?.into_string())
+    value(alloc, &Value::Text(copy))
 }
 
 pub fn bytes(alloc: Global, bytes: &[u8]) -> Told {
@@ -49,14 +45,6 @@ pub fn bytes(alloc: Global, bytes: &[u8]) -> Told {
 
 pub fn truth(alloc: Global, holds: bool) -> Told {
     Ok(format!(in alloc; "{holds}")?)
-}
-
-/// A number, or that there is none.
-pub fn number(alloc: Global, number: Option<u64>) -> Told {
-    match number {
-        Some(number) => Ok(format!(in alloc; "{number}")?),
-        None => word(alloc, "none"),
-    }
 }
 
 /// A variant's name, or the like.
@@ -74,4 +62,10 @@ pub fn key(alloc: Global, key: &Key) -> Told {
 /// The line and the kind of a module's fault.
 pub fn module_fault(alloc: Global, fault: ModuleFault) -> Told {
     Ok(format!(in alloc; "{} {}", fault.line, fault.kind.name())?)
+}
+
+/// A code, and the number of its line.
+pub fn code(alloc: Global, code: &str, line: u64) -> Told {
+    let shown = text(alloc, code)?;
+    Ok(format!(in alloc; "{} line: {line}", shown.as_str())?)
 }
