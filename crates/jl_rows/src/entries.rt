@@ -115,12 +115,14 @@ fn names(alloc: Global, given: &[Value]) -> Told {
     let module = given::text(alloc, given, 1)?;
     let function = given::text(alloc, given, 2)?;
     let key = digest(alloc, &given::args(alloc, given, 3)?)?;
-    let (module, function) = (module.as_str(), function.as_str());
-    if !is_name(module) || !is_name(function) {
+    if !is_name(module.as_str()) {
         return Err(RowFault::Bad);
     }
-    let folders = folders(alloc, &location, module, function, &key)?;
-    let files = files(alloc, &location, module, function, &key)?;
+    if !is_name(function.as_str()) {
+        return Err(RowFault::Bad);
+    }
+    let folders = folders(alloc, &location, module.as_str(), function.as_str(), &key)?;
+    let files = files(alloc, &location, module.as_str(), function.as_str(), &key)?;
     Ok(format!(in alloc; "{}\n{}", folders.as_str(), files.as_str())?)
 }
 

@@ -34,7 +34,10 @@ fn set(alloc: Global, given: &[Value]) -> Told {
         1 => 8,
         _ => given::small_number(given, 1)?,
     };
-    if processors == 0 || processors > 1024 {
+    if processors == 0 {
+        return Err(RowFault::Bad);
+    }
+    if processors > 1024 {
         return Err(RowFault::Bad);
     }
     match settings(alloc, words.as_slice(), processors) {
