@@ -1,10 +1,6 @@
 //! How much a cache may keep, and the texts that say so. No call takes memory.
 #![tactic(auto)]
 
-mod digits;
 mod limits;
 
 pub use limits::{BadLimit, Limits, read_age, read_count, read_size};
-
-#[cfg(test)]
-mod tests;

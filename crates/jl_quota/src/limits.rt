@@ -3,8 +3,17 @@ ghost use Rattle.std.specs.Prelude.{◌≡◌};
 ghost use Rattle.std.specs.Result.{result_ok};
 ghost use Rattle.jl_quota.specs.Limits.{count_of, size_of, age_of, unit_of, scaled as scaled_of};
 
-use crate::digits::{are_digits, decimal};
+use jl_numbers::read_decimal;
 use thiserror::Error;
+
+/// The most digits of a limit.
+pub const MOST_DIGITS: usize = 20;
+
+/// The longest age, in seconds.
+pub const MOST_SECONDS: u64 = 1_000_000_000_000;
+
+/// How many microseconds a second has.
+pub const MICROSECONDS: u64 = 1_000_000;
 
 /// How much may stay: bytes, items, and how long ago an item may have been used, in microseconds.
 /// `None` is no limit.
@@ -23,10 +32,10 @@ pub struct BadLimit;
 fn count(bytes: &[u8]) -> Option<u64>
     ensures { result ≡ count_of bytes.now }
 {
-    if !are_digits(bytes) {
+    if bytes.len() > MOST_DIGITS {
         return None;
     }
-    decimal(bytes)
+    read_decimal(bytes, u64::MAX)
 }
 
 fn unit(last: u8) -> u64
@@ -65,39 +74,29 @@ fn size(bytes: &[u8]) -> Option<u64>
 pub fn read_size(text: &str) -> Result<u64, BadLimit>
     ensures { result_ok result ≡ size_of text.now }
 {
-    let bytes = text.as_bytes();
-    match size(bytes) {
-        Some(size) => Ok(size),
-        None => Err(BadLimit),
-    }
+    size(text.as_bytes()).ok_or(BadLimit)
 }
 
 /// Reads a number of items: 1 to 20 digits.
 pub fn read_count(text: &str) -> Result<u64, BadLimit>
     ensures { result_ok result ≡ count_of text.now }
 {
-    match count(text.as_bytes()) {
-        Some(count) => Ok(count),
-        None => Err(BadLimit),
-    }
+    count(text.as_bytes()).ok_or(BadLimit)
 }
 
 fn age(bytes: &[u8]) -> Option<u64>
     ensures { result ≡ age_of bytes.now }
 {
     let seconds = count(bytes)?;
-    if seconds > 1_000_000_000_000 {
+    if seconds > MOST_SECONDS {
         return None;
     }
-    Some(seconds * 1_000_000)
+    Some(seconds * MICROSECONDS)
 }
 
 /// Reads an age, 1 to 20 digits of seconds up to 10^12, and gives it in microseconds.
 pub fn read_age(text: &str) -> Result<u64, BadLimit>
     ensures { result_ok result ≡ age_of text.now }
 {
-    match age(text.as_bytes()) {
-        Some(age) => Ok(age),
-        None => Err(BadLimit),
-    }
+    age(text.as_bytes()).ok_or(BadLimit)
 }

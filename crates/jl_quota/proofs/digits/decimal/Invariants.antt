@@ -1,6 +1,0 @@
-use Rattle.std.proofs.Common.{◌≡◌, ◌<◌, ◌^◌, fold, drop}
-use Rattle.jl_quota.specs.Digits.{longer, decimal}
-use Rattle.jl_quota.proofs.digits.decimal.Given as goal
-
-abbrev pub invariant-loop-digit : goal.invariant-loop-digit
-invariant-loop-digit l = (l.value < 2 ^ 64) × (fold longer l.value (drop l.digit-index l.digits) ≡ decimal l.digits)
