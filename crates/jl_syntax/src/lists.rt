@@ -30,7 +30,10 @@ fn emptied_at<'a>(frame: Frame<'a>, stack: Stack<'a>) -> Result<Reader<'a>, Stop
 {
     match frame {
         Frame::Listed(members) => emptied_list(members, stack),
-        _ => Err(Stop::Bad),
+        other => {
+            drop(other);
+            Err(Stop::Bad)
+        }
     }
 }
 
@@ -82,7 +85,10 @@ fn looped_at<'a>(frame: Frame<'a>, stack: Stack<'a>, tree: Tree<'a>) -> Result<R
 {
     match frame {
         Frame::Listed(members) => looped_list(&members, stack, tree),
-        _ => Err(Stop::Bad),
+        other => {
+            drop(other);
+            Err(Stop::Bad)
+        }
     }
 }
 
@@ -106,7 +112,10 @@ fn braced_at<'a>(frame: Frame<'a>, stack: Stack<'a>, tree: Tree<'a>) -> Result<R
             stack,
             mode: Mode::Held(Tree::tabled(entries.with(key, tree)?)),
         }),
-        _ => Err(Stop::Bad),
+        other => {
+            drop(other);
+            Err(Stop::Bad)
+        }
     }
 }
 

@@ -325,6 +325,7 @@ pub(crate) fn opened<'a>(frame: Frame<'a>, stack: Stack<'a>) -> Result<Reader<'a
     ensures { IsStep result (nested 128 frame.entry stack.entry) }
 {
     if stack.depth() >= 128 {
+        drop(frame);
         return Err(Stop::Deep);
     }
     Ok(Reader {
@@ -431,7 +432,10 @@ fn picked_at<'a>(frame: Frame<'a>, stack: Stack<'a>, tree: Tree<'a>) -> Result<R
             stack: stack.open(Frame::Filter(member, variable, tree))?,
             mode: Mode::Wanted,
         }),
-        _ => Err(Stop::Bad),
+        other => {
+            drop(other);
+            Err(Stop::Bad)
+        }
     }
 }
 
@@ -464,7 +468,10 @@ fn elsed_at<'a>(frame: Frame<'a>, stack: Stack<'a>, tree: Tree<'a>) -> Result<Re
             stack: stack.push(Frame::Otherwise(first, tree))?,
             mode: Mode::Wanted,
         }),
-        _ => Err(Stop::Bad),
+        other => {
+            drop(other);
+            Err(Stop::Bad)
+        }
     }
 }
 
@@ -500,7 +507,10 @@ fn closed_at<'a>(
             stack,
             mode: Mode::Held(Tree::span(alloc, first, tree)?),
         }),
-        _ => Err(Stop::Bad),
+        other => {
+            drop(other);
+            Err(Stop::Bad)
+        }
     }
 }
 
@@ -540,7 +550,10 @@ fn ended_at<'a>(
             stack,
             mode: Mode::Held(Tree::filtered(alloc, member, variable, source, tree)?),
         }),
-        _ => Err(Stop::Bad),
+        other => {
+            drop(other);
+            Err(Stop::Bad)
+        }
     }
 }
 
@@ -583,7 +596,10 @@ fn parted_at<'a>(frame: Frame<'a>, stack: Stack<'a>, tree: Tree<'a>) -> Result<R
             stack,
             mode: Mode::Key(entries.with(key, tree)?),
         }),
-        _ => Err(Stop::Bad),
+        other => {
+            drop(other);
+            Err(Stop::Bad)
+        }
     }
 }
 
@@ -627,7 +643,10 @@ fn whole(operands: Operands<'_>) -> Result<Tree<'_>, Stop>
 {
     let Operands { stack, tree } = operands;
     match stack.pop() {
-        Some(_) => Err(Stop::Bad),
+        Some((frame, _rest)) => {
+            drop(frame);
+            Err(Stop::Bad)
+        }
         None => Ok(tree),
     }
 }
