@@ -1,4 +1,4 @@
--- The signs of an expression lead to its value.
+-- The lexemes of an expression lead to its value.
 use Rattle.std.proofs.Common.{◌≡◌, ℕ, suc, ◌+◌, ◌-◌, ◌<◌, ◌≤◌, true, false, List, [], ◌∷◌, ◌++◌, length, refl, ap, ◌∙◌, append_assoc, add-one, arith}
 use Rattle.std.specs.Prelude.{ℤ, nat_lt, Option, Some, None, option_map, option_and_then}
 use Rattle.std.proofs.lemmas.List.{append-nil}
@@ -6,14 +6,15 @@ use Rattle.std.proofs.lemmas.Option.{none-some, same_Some, option_and_then_some}
 use Rattle.std.proofs.lemmas.Bool.Decides.{nat_tests}
 use lib.IntN.{neg_ℤ}
 use Rattle.jl_batch.specs.declared.arithmetic.Operator.{Operator}
-use Rattle.jl_batch.specs.declared.signs.Sign.{Sign}
-use Rattle.jl_batch.specs.declared.signs.Sign.TheVariants.{Whole, Jobs, Infix, Opening, Closing}
-use Rattle.jl_batch.specs.declared.machine.Pending.{Pending}
-use Rattle.jl_batch.specs.declared.machine.Level.{Level}
-use Rattle.jl_batch.specs.declared.machine.Reader.{Reader}
-use Rattle.jl_batch.specs.Arithmetic.{within_64, applied, is_tight}
+use Rattle.jl_batch.specs.declared.lexer.Lexeme.{Lexeme}
+use Rattle.jl_batch.specs.declared.lexer.Lexeme.TheVariants.{Whole, Jobs, Infix, Opening, Closing}
+use Rattle.jl_batch.specs.declared.parser.Pending.{Pending}
+use Rattle.jl_batch.specs.declared.parser.Level.{Level}
+use Rattle.jl_batch.specs.declared.parser.Reader.{Reader}
+use Rattle.jl_numbers.specs.Division.{within_64}
+use Rattle.jl_batch.specs.Arithmetic.{applied, is_tight}
 use Rattle.jl_batch.specs.Expressions.{Expression, applied_to, value_of, Kind, a_factor, a_term, a_sum, Spells, number, name, bracket, minus, factor, product, term, sum, negated}
-use Rattle.jl_batch.specs.Machine.{joined, with_operand, run, started}
+use Rattle.jl_batch.specs.Parser.{joined, with_operand, run, started}
 
 -- a reader, by its parts
 abbrev pub reader_at : Option Pending → Option Pending → ℕ → ℕ → List Level → Option ℤ → Reader
@@ -23,8 +24,8 @@ reader_at s t m r outer value = record { level = record { sum = s; term = t; min
 abbrev pub waiting : ℤ → Operator → Option Pending
 waiting x op = Some (record { value = x; operator = op })
 
--- signs that do not go on a term
-abbrev pub EndsTerm : List Sign → Type 0
+-- lexemes that do not go on a term
+abbrev pub EndsTerm : List Lexeme → Type 0
 EndsTerm [] = Unit {0}
 EndsTerm (Whole z ∷ ss) = Unit {0}
 EndsTerm (Jobs ∷ ss) = Unit {0}
@@ -33,7 +34,7 @@ EndsTerm (Opening ∷ ss) = Unit {0}
 EndsTerm (Closing ∷ ss) = Unit {0}
 
 -- only the value of a term counts for what follows it
-term_joined : (n : ℤ) (s t : Option Pending) (r : ℕ) (outer : List Level) (x v : ℤ) (rest : List Sign) → joined t x ≡ Some v → run n (reader_at s t 0 r outer (Some x)) rest ≡ run n (reader_at s None 0 r outer (Some v)) rest
+term_joined : (n : ℤ) (s t : Option Pending) (r : ℕ) (outer : List Level) (x v : ℤ) (rest : List Lexeme) → joined t x ≡ Some v → run n (reader_at s t 0 r outer (Some x)) rest ≡ run n (reader_at s None 0 r outer (Some v)) rest
 term_joined n s t r [] x v [] e = rw e
 term_joined n s t r (o ∷ os) x v [] e = refl
 term_joined n s t r outer x v (Whole z ∷ ss) e = refl
@@ -43,7 +44,7 @@ term_joined n s t r outer x v (Opening ∷ ss) e = refl
 term_joined n s t r outer x v (Closing ∷ ss) e = rw e
 
 -- only the value of a sum counts for what follows it
-sum_joined : (n : ℤ) (s : Option Pending) (r : ℕ) (outer : List Level) (x v : ℤ) (rest : List Sign) → joined s x ≡ Some v → EndsTerm rest → run n (reader_at s None 0 r outer (Some x)) rest ≡ run n (reader_at None None 0 r outer (Some v)) rest
+sum_joined : (n : ℤ) (s : Option Pending) (r : ℕ) (outer : List Level) (x v : ℤ) (rest : List Lexeme) → joined s x ≡ Some v → EndsTerm rest → run n (reader_at s None 0 r outer (Some x)) rest ≡ run n (reader_at None None 0 r outer (Some v)) rest
 sum_joined n s r [] x v [] e ends = e
 sum_joined n s r (o ∷ os) x v [] e ends = refl
 sum_joined n s r outer x v (Whole z ∷ ss) e ends = refl
@@ -53,14 +54,14 @@ sum_joined n s r outer x v (Opening ∷ ss) e ends = refl
 sum_joined n s r outer x v (Closing ∷ ss) e ends = rw e
 
 -- what follows a factor with this value, behind m minus signs
-abbrev after_factor : ℤ → Option Pending → Option Pending → ℕ → List Level → List Sign → Option ℤ → Option ℤ
+abbrev after_factor : ℤ → Option Pending → Option Pending → ℕ → List Level → List Lexeme → Option ℤ → Option ℤ
 after_factor n s t r outer rest o = option_and_then (λ u. run n (reader_at s t 0 r outer (Some u)) rest) o
 
 and_then_map : {A B C : Type 0} (f : A → B) (g : B → Option C) (o : Option A) → option_and_then g (option_map f o) ≡ option_and_then (λ x. g (f x)) o
 and_then_map f g None = refl
 and_then_map f g (Some x) = refl
 
-operand_runs : (n : ℤ) (s t : Option Pending) (m r : ℕ) (outer : List Level) (x : ℤ) (rest : List Sign) → option_and_then (λ r'. run n r' rest) (with_operand (record { sum = s; term = t; minuses = m; room = r }) outer x) ≡ after_factor n s t r outer rest (negated m x)
+operand_runs : (n : ℤ) (s t : Option Pending) (m r : ℕ) (outer : List Level) (x : ℤ) (rest : List Lexeme) → option_and_then (λ r'. run n r' rest) (with_operand (record { sum = s; term = t; minuses = m; room = r }) outer x) ≡ after_factor n s t r outer rest (negated m x)
 operand_runs n s t m r outer x rest = and_then_map (λ v. reader_at s t 0 r outer (Some v)) (λ r'. run n r' rest) (negated m x)
 
 -- what an operator's value says of its sides
@@ -69,19 +70,19 @@ applied_parts op None y v e k = absurd (none-some v e)
 applied_parts op (Some a) None v e k = absurd (none-some v e)
 applied_parts op (Some a) (Some b) v e k = k a b refl refl e
 
--- what the signs of a kind lead to
-abbrev Runs : Kind → ℤ → ℕ → List Sign → ℤ → Type 0
-Runs a_factor n d ss v = (s t : Option Pending) (m r : ℕ) (outer : List Level) (rest : List Sign) → m + d ≤ r → length outer + r ≤ 32 →
+-- what the lexemes of a kind lead to
+abbrev Runs : Kind → ℤ → ℕ → List Lexeme → ℤ → Type 0
+Runs a_factor n d ss v = (s t : Option Pending) (m r : ℕ) (outer : List Level) (rest : List Lexeme) → m + d ≤ r → length outer + r ≤ 32 →
     run n (reader_at s t m r outer None) (ss ++ rest) ≡ after_factor n s t r outer rest (negated m v)
-Runs a_term n d ss v = (s : Option Pending) (r : ℕ) (outer : List Level) (rest : List Sign) → d ≤ r → length outer + r ≤ 32 →
+Runs a_term n d ss v = (s : Option Pending) (r : ℕ) (outer : List Level) (rest : List Lexeme) → d ≤ r → length outer + r ≤ 32 →
     run n (reader_at s None 0 r outer None) (ss ++ rest) ≡ run n (reader_at s None 0 r outer (Some v)) rest
-Runs a_sum n d ss v = (r : ℕ) (outer : List Level) (rest : List Sign) → d ≤ r → length outer + r ≤ 32 → EndsTerm rest →
+Runs a_sum n d ss v = (r : ℕ) (outer : List Level) (rest : List Lexeme) → d ≤ r → length outer + r ≤ 32 → EndsTerm rest →
     run n (reader_at None None 0 r outer None) (ss ++ rest) ≡ run n (reader_at None None 0 r outer (Some v)) rest
 
 lt_test : (a b : ℕ) → a < b → nat_lt a b ≡ true
 lt_test a b h = grind (arith, nat_tests)
 
-runs : (n : ℤ) {k : Kind} {d : ℕ} {ss : List Sign} {e : Expression} → Spells k d ss e → (v : ℤ) → value_of n e ≡ Some v → Runs k n d ss v
+runs : (n : ℤ) {k : Kind} {d : ℕ} {ss : List Lexeme} {e : Expression} → Spells k d ss e → (v : ℤ) → value_of n e ≡ Some v → Runs k n d ss v
 runs n (number {z = z}) v eq = λ s t m r outer rest fits small.
     let same : z ≡ v = same_Some z v eq in
     operand_runs n s t m r outer z rest ∙ ap (λ w. after_factor n s t r outer rest (negated m w)) same
@@ -119,7 +120,7 @@ runs n (sum {ss = ss} {ts = ts} {a = a} {b = b} {op = op} h loose g) v eq = λ r
     ∙ runs n h x has_a r outer (Infix op ∷ (ts ++ rest)) fits small loose
     ∙ (rw loose (runs n g y has_b (waiting x op) r outer rest fits small ∙ sum_joined n (waiting x op) r outer y v rest gives ends)))
 
--- an expression's signs lead to its value
-pub complete : (n : ℤ) (ss : List Sign) (e : Expression) (v : ℤ) → Spells a_sum 32 ss e → value_of n e ≡ Some v → run n started ss ≡ Some v
+-- an expression's lexemes lead to its value
+pub complete : (n : ℤ) (ss : List Lexeme) (e : Expression) (v : ℤ) → Spells a_sum 32 ss e → value_of n e ≡ Some v → run n started ss ≡ Some v
 complete n ss e v h eq =
     rw append-nil at (runs n h v eq 32 [] [] (omega arith) (omega arith) tt)

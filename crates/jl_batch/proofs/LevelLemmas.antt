@@ -1,7 +1,7 @@
 -- Levels on a stack.
 use Rattle.std.proofs.Common.{◌≡◌, ◌≢◌, ℕ, zero, suc, ◌+◌, ◌<◌, ◌≤◌, List, ◌∷◌, length, refl, ap, arith, add-one, get_or-set_other, get_or-set_same}
 use Rattle.std.proofs.Math.ListN.{set}
-use Rattle.jl_batch.specs.declared.machine.Level.{Level}
+use Rattle.jl_batch.specs.declared.parser.Level.{Level}
 use Rattle.jl_batch.specs.Levels.{levels_below}
 
 pub length-levels_below : (n : ℕ) (xs : List Level) → length (levels_below n xs) ≡ n

@@ -1,6 +1,4 @@
 pub mod Completeness
-pub mod DigitLemmas
-pub mod Division
 pub mod LevelLemmas
 pub mod NegationLemmas
 pub mod ReadLemmas

@@ -1,11 +1,12 @@
--- Expressions as trees, what they are worth, and which signs spell them.
+-- Expressions as trees, what they are worth, and which lexemes spell them.
 use Rattle.std.specs.Prelude.{◌≡◌, ℕ, zero, suc, true, false, ℤ, List, [], ◌∷◌, ◌++◌, Option, Some, None, option_and_then}
 use lib.IntN.{neg_ℤ}
 use Rattle.jl_batch.specs.declared.arithmetic.Operator.{Operator}
 use Rattle.jl_batch.specs.declared.arithmetic.Operator.TheVariants.{Minus}
-use Rattle.jl_batch.specs.declared.signs.Sign.{Sign}
-use Rattle.jl_batch.specs.declared.signs.Sign.TheVariants.{Whole, Jobs, Infix, Opening, Closing}
-use Rattle.jl_batch.specs.Arithmetic.{within_64, applied, is_tight}
+use Rattle.jl_batch.specs.declared.lexer.Lexeme.{Lexeme}
+use Rattle.jl_batch.specs.declared.lexer.Lexeme.TheVariants.{Whole, Jobs, Infix, Opening, Closing}
+use Rattle.jl_numbers.specs.Division.{within_64}
+use Rattle.jl_batch.specs.Arithmetic.{applied, is_tight}
 
 -- an expression, as a tree
 pub data Expression : Type 0 where
@@ -32,20 +33,20 @@ pub data Kind : Type 0 where
   a_term : Kind
   a_sum : Kind
 
--- which signs spell an expression of a kind, with brackets and minus signs nested at most so deep:
+-- which lexemes spell an expression of a kind, with brackets and minus signs nested at most so deep:
 --   sum    := term { ("+" | "-") term }
 --   term   := factor { ("*" | "//" | "%") factor }
 --   factor := whole | "n_jobs" | "(" sum ")" | "-" factor
 -- where operators of one level bind from the left
-pub data Spells : Kind → ℕ → List Sign → Expression → Type 0 where
+pub data Spells : Kind → ℕ → List Lexeme → Expression → Type 0 where
   number : {depth : ℕ} {z : ℤ} → Spells a_factor depth (Whole z ∷ []) (whole z)
   name : {depth : ℕ} → Spells a_factor depth (Jobs ∷ []) jobs
-  bracket : {depth : ℕ} {ss : List Sign} {e : Expression} → Spells a_sum depth ss e → Spells a_factor (suc depth) (Opening ∷ (ss ++ Closing ∷ [])) e
-  minus : {depth : ℕ} {ss : List Sign} {e : Expression} → Spells a_factor depth ss e → Spells a_factor (suc depth) (Infix Minus ∷ ss) (negation e)
-  factor : {depth : ℕ} {ss : List Sign} {e : Expression} → Spells a_factor depth ss e → Spells a_term depth ss e
-  product : {depth : ℕ} {ss ts : List Sign} {a b : Expression} {op : Operator} → Spells a_term depth ss a → is_tight op ≡ true → Spells a_factor depth ts b → Spells a_term depth (ss ++ Infix op ∷ ts) (operation op a b)
-  term : {depth : ℕ} {ss : List Sign} {e : Expression} → Spells a_term depth ss e → Spells a_sum depth ss e
-  sum : {depth : ℕ} {ss ts : List Sign} {a b : Expression} {op : Operator} → Spells a_sum depth ss a → is_tight op ≡ false → Spells a_term depth ts b → Spells a_sum depth (ss ++ Infix op ∷ ts) (operation op a b)
+  bracket : {depth : ℕ} {ss : List Lexeme} {e : Expression} → Spells a_sum depth ss e → Spells a_factor (suc depth) (Opening ∷ (ss ++ Closing ∷ [])) e
+  minus : {depth : ℕ} {ss : List Lexeme} {e : Expression} → Spells a_factor depth ss e → Spells a_factor (suc depth) (Infix Minus ∷ ss) (negation e)
+  factor : {depth : ℕ} {ss : List Lexeme} {e : Expression} → Spells a_factor depth ss e → Spells a_term depth ss e
+  product : {depth : ℕ} {ss ts : List Lexeme} {a b : Expression} {op : Operator} → Spells a_term depth ss a → is_tight op ≡ true → Spells a_factor depth ts b → Spells a_term depth (ss ++ Infix op ∷ ts) (operation op a b)
+  term : {depth : ℕ} {ss : List Lexeme} {e : Expression} → Spells a_term depth ss e → Spells a_sum depth ss e
+  sum : {depth : ℕ} {ss ts : List Lexeme} {a b : Expression} {op : Operator} → Spells a_sum depth ss a → is_tight op ≡ false → Spells a_term depth ts b → Spells a_sum depth (ss ++ Infix op ∷ ts) (operation op a b)
 
 -- minus signs, one after the other
 abbrev pub negated : ℕ → ℤ → Option ℤ

@@ -1,6 +1,6 @@
 -- The first levels of a list, the last of them first.
 use Rattle.std.specs.Prelude.{ℕ, zero, suc, List, [], ◌∷◌, None, slice_index_or}
-use Rattle.jl_batch.specs.declared.machine.Level.{Level}
+use Rattle.jl_batch.specs.declared.parser.Level.{Level}
 
 -- a level that is not there
 abbrev pub no_level : Level

@@ -2,9 +2,9 @@ pub mod Arithmetic
 pub mod Expressions
 pub mod Jobs
 pub mod Levels
-pub mod Machine
+pub mod Lexemes
+pub mod Parser
 pub mod Reads
 pub mod Rooms
-pub mod Signs
 pub mod Sizes
 pub mod Windows

@@ -1,12 +1,13 @@
--- Reading an expression sign by sign.
+-- Reading an expression lexeme by lexeme.
 use Rattle.std.specs.Prelude.{ℕ, ◌+◌, ◌-◌, nat_lt, if◌then◌else◌, ℤ, List, [], ◌∷◌, length, Option, Some, None, option_map, option_and_then}
 use Rattle.jl_batch.specs.declared.arithmetic.Operator.{Operator}
 use Rattle.jl_batch.specs.declared.arithmetic.Operator.TheVariants.{Plus, Minus, Times, Over, Modulo}
-use Rattle.jl_batch.specs.declared.signs.Sign.{Sign}
-use Rattle.jl_batch.specs.declared.signs.Sign.TheVariants.{Whole, Jobs, Infix, Opening, Closing}
-use Rattle.jl_batch.specs.declared.machine.Pending.{Pending}
-use Rattle.jl_batch.specs.declared.machine.Level.{Level}
-use Rattle.jl_batch.specs.declared.machine.Reader.{Reader}
+use Rattle.jl_batch.specs.declared.lexer.Lexeme.{Lexeme}
+use Rattle.jl_batch.specs.declared.lexer.Lexeme.TheVariants.{Whole, Jobs, Infix, Opening, Closing}
+use Rattle.jl_batch.specs.declared.parser.TheConstants.{MOST_DEPTH, LEVELS}
+use Rattle.jl_batch.specs.declared.parser.Pending.{Pending}
+use Rattle.jl_batch.specs.declared.parser.Level.{Level}
+use Rattle.jl_batch.specs.declared.parser.Reader.{Reader}
 use Rattle.jl_batch.specs.Arithmetic.{applied, is_tight}
 use Rattle.jl_batch.specs.Expressions.{negated}
 
@@ -32,10 +33,10 @@ with_minus l outer = if nat_lt l.minuses l.room then Some (record { level = reco
 
 abbrev pub opened : Level → List Level → Option Reader
 opened l outer =
-    if nat_lt l.minuses l.room then (if nat_lt (length outer) 32 then Some (record { level = fresh (l.room - l.minuses - 1); outer = l ∷ outer; value = None }) else None) else None
+    if nat_lt l.minuses l.room then (if nat_lt (length outer) LEVELS then Some (record { level = fresh (l.room - l.minuses - 1); outer = l ∷ outer; value = None }) else None) else None
 
 -- where a factor is expected
-abbrev pub expecting : ℤ → Level → List Level → Sign → Option Reader
+abbrev pub expecting : ℤ → Level → List Level → Lexeme → Option Reader
 expecting jobs l outer (Whole n) = with_operand l outer n
 expecting jobs l outer Jobs = with_operand l outer jobs
 expecting jobs l outer (Infix Plus) = None
@@ -58,19 +59,19 @@ closed [] x = None
 closed (l ∷ outer) x = with_operand l outer x
 
 -- behind a factor's value
-abbrev pub behind : Level → List Level → ℤ → Sign → Option Reader
+abbrev pub behind : Level → List Level → ℤ → Lexeme → Option Reader
 behind l outer x (Whole n) = None
 behind l outer x Jobs = None
 behind l outer x (Infix op) = if is_tight op then option_map (with_tight l outer op) (joined l.term x) else option_map (with_loose l outer op) (total l x)
 behind l outer x Opening = None
 behind l outer x Closing = option_and_then (closed outer) (total l x)
 
-abbrev pub step_at : ℤ → Level → List Level → Option ℤ → Sign → Option Reader
+abbrev pub step_at : ℤ → Level → List Level → Option ℤ → Lexeme → Option Reader
 step_at jobs l outer None s = expecting jobs l outer s
 step_at jobs l outer (Some x) s = behind l outer x s
 
--- after one more sign
-abbrev pub step : ℤ → Reader → Sign → Option Reader
+-- after one more lexeme
+abbrev pub step : ℤ → Reader → Lexeme → Option Reader
 step jobs r s = step_at jobs r.level r.outer r.value s
 
 abbrev pub finished_at : Level → List Level → Option ℤ → Option ℤ
@@ -78,15 +79,15 @@ finished_at l outer None = None
 finished_at l [] (Some x) = total l x
 finished_at l (o ∷ os) (Some x) = None
 
--- the value at the end of the signs
+-- the value at the end of the lexemes
 abbrev pub finished : Reader → Option ℤ
 finished r = finished_at r.level r.outer r.value
 
 -- nothing read
 abbrev pub started : Reader
-started = record { level = fresh 32; outer = []; value = None }
+started = record { level = fresh MOST_DEPTH; outer = []; value = None }
 
--- the value that signs lead to
-abbrev pub run : ℤ → Reader → List Sign → Option ℤ
+-- the value that lexemes lead to
+abbrev pub run : ℤ → Reader → List Lexeme → Option ℤ
 run jobs r [] = finished r
 run jobs r (s ∷ ss) = option_and_then (λ r'. run jobs r' ss) (step jobs r s)

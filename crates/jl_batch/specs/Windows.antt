@@ -1,20 +1,21 @@
 -- The window that a text asks for.
-use Rattle.std.specs.Prelude.{◌≡◌, ◌≢◌, ℕ, ℤ, pos, int_lt, if◌then◌else◌, unsigned_abs, min, List, [], ◌∷◌, Result, Ok, Err, Some}
+use Rattle.std.specs.Prelude.{◌≡◌, ◌≢◌, ℕ, ℤ, pos, int_lt, if◌then◌else◌, unsigned_abs, min, List, codes, Result, Ok, Err, Some}
 use Rattle.jl_batch.specs.declared.window.Window.{Window}
 use Rattle.jl_batch.specs.declared.window.Window.TheVariants.{All, Tasks}
 use Rattle.jl_batch.specs.declared.pre_dispatch.PreDispatchFault.{PreDispatchFault}
 use Rattle.jl_batch.specs.declared.pre_dispatch.PreDispatchFault.TheVariants.{BadExpression, BelowOne}
-use Rattle.jl_batch.specs.declared.signs.Sign.{Sign}
-use Rattle.jl_batch.specs.Signs.{HasSigns}
+use Rattle.jl_batch.specs.declared.lexer.Lexeme.{Lexeme}
+use Rattle.jl_batch.specs.declared.parser.TheConstants.{MOST_DEPTH}
+use Rattle.jl_batch.specs.Lexemes.{HasLexemes}
 use Rattle.jl_batch.specs.Expressions.{Expression, Spells, a_sum, value_of}
 
 -- `all`
 unfoldable pub all_word : List ℕ
-all_word = 97 ∷ 108 ∷ 108 ∷ []
+all_word = codes "all"
 
 -- a text is an expression in which brackets and minus signs nest at most 32 deep, worth v at this number of jobs
 abbrev pub IsWorth : List ℕ → ℕ → ℤ → Type 0
-IsWorth text jobs v = (ss : List Sign) × (e : Expression) × HasSigns text ss × Spells a_sum 32 ss e × (value_of (pos jobs) e ≡ Some v)
+IsWorth text jobs v = (ss : List Lexeme) × (e : Expression) × HasLexemes text ss × Spells a_sum MOST_DEPTH ss e × (value_of (pos jobs) e ≡ Some v)
 
 -- what a value asks for: one task at least, and above 1,000,000 as many
 abbrev pub window_at : ℤ → Result Window PreDispatchFault

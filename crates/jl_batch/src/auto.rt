@@ -4,11 +4,17 @@ ghost use Rattle.jl_batch.specs.Sizes.{started, size_after, sized, completed_of,
 
 use std::marker::Model;
 
-const LEAST: u64 = 200_000;
+/// Batches that take less, in microseconds, are to grow.
+const SHORT: u64 = 200_000;
 
-const MOST: u64 = 2_000_000;
+/// Batches that take more are to shrink.
+const LONG: u64 = 2_000_000;
 
+/// A duration above this one counts as this one.
 const LONGEST: u64 = 1_000_000_000_000;
+
+/// The most tasks of a batch.
+const MOST_TASKS: u32 = 32;
 
 /// How many tasks make a batch: a number that follows what batches take, or always the same.
 #[derive(Debug, Drop, Clone, Copy, PartialEq, Eq)]
@@ -27,12 +33,13 @@ pub struct Auto {
 impl Model for Auto {
     ghost use Rattle.std.specs.Prelude.{◌≤◌};
     ghost use Rattle.jl_batch.specs.Sizes.{Sizing};
+    ghost use Rattle.jl_batch.specs.declared.auto.TheConstants.{LONGEST, MOST_TASKS};
 
     ghost Value = { Sizing };
 
     ghost view = { λ a. record { size = a.size; smoothed = a.smoothed } };
 
-    ghost invariant = { λ a. (1 ≤ a.size) × (a.size ≤ 32) × (a.smoothed ≤ 1000000000000) };
+    ghost invariant = { λ a. (1 ≤ a.size) × (a.size ≤ MOST_TASKS) × (a.smoothed ≤ LONGEST) };
 }
 
 /// What happens to a size of batches: it is asked for, or a batch of so many tasks took so many
@@ -45,18 +52,20 @@ pub enum Step {
 
 fn next_size(size: u32, smoothed: u64) -> u32
     requires least { 1 ≤ size }
-    requires most { size ≤ 32 }
+    requires most { size ≤ MOST_TASKS }
     ensures size { result ≡ size_after (record { size = size; smoothed = smoothed }) }
     ensures least { 1 ≤ result }
-    ensures most { result ≤ 32 }
+    ensures most { result ≤ MOST_TASKS }
 {
-    if smoothed > 0 && smoothed < LEAST {
-        let scaled = 2 * (u64::from(size) * LEAST / smoothed);
-        return u64::from(2 * size).min(scaled).clamp(1, 32) as u32;
+    if smoothed > 0 && smoothed < SHORT {
+        let scaled = 2 * (u64::from(size) * SHORT / smoothed);
+        return u64::from(2 * size)
+            .min(scaled)
+            .clamp(1, u64::from(MOST_TASKS)) as u32;
     }
-    if smoothed > MOST && size >= 2 {
-        let scaled = 2 * (u64::from(size) * LEAST / smoothed);
-        return scaled.clamp(1, 32) as u32;
+    if smoothed > LONG && size >= 2 {
+        let scaled = 2 * (u64::from(size) * SHORT / smoothed);
+        return scaled.clamp(1, u64::from(MOST_TASKS)) as u32;
     }
     size
 }
@@ -77,7 +86,7 @@ impl Auto {
         ensures size { result ≡ size_after self.old }
         ensures after { self.new ≡ sized self.old }
         ensures least { 1 ≤ result }
-        ensures most { result ≤ 32 }
+        ensures most { result ≤ MOST_TASKS }
     {
         let size = next_size(self.size, self.smoothed);
         if size != self.size {

@@ -2,6 +2,7 @@
 ghost use Rattle.std.specs.Prelude.{◌≡◌, ◌↔◌, pos, IsErr, IfOk};
 ghost use Rattle.jl_batch.specs.Jobs.{jobs_of};
 
+use jl_text::limits::MOST_JOBS;
 use thiserror::Error;
 
 /// No jobs were asked for.
@@ -19,8 +20,8 @@ pub fn effective_jobs(n: i64, cpus: u32) -> Result<u32, ZeroJobs>
         return Err(ZeroJobs);
     }
     if n > 0 {
-        return Ok(n.min(1024) as u32);
+        return Ok(n.min(i64::from(MOST_JOBS)) as u32);
     }
     let asked = i64::from(cpus) + 1 + n;
-    Ok(asked.clamp(1, 1024) as u32)
+    Ok(asked.clamp(1, i64::from(MOST_JOBS)) as u32)
 }

@@ -1,13 +1,22 @@
-// The signs of a text.
-ghost use Rattle.std.specs.Prelude.{◌≡◌, ℕ, ◌≤◌, ◌<◌, Some, None, MatchOption, IfSome, length, slice_index, true, pos};
+// The lexer of expressions: the numbers, words, operators and brackets of a text.
+ghost use Rattle.std.specs.Prelude.{◌≡◌, ◌≤◌, ◌<◌, Some, None, MatchOption, IfSome, length, true, pos};
 ghost use Rattle.std.specs.List.{prefix_len};
-ghost use Rattle.jl_batch.specs.Signs.{is_digit as is_digit_of, decimal as decimal_of, whole_at, jobs_at, over_at, mark_of, front_sign as front_sign_of, without_blanks as without_blanks_of, jobs_word};
+ghost use Rattle.std.specs.Char.{is_ascii_digit};
+ghost use Rattle.jl_numbers.specs.Digits.{are_digits, decimal};
+ghost use Rattle.jl_batch.specs.Lexemes.{whole_at, jobs_at, over_at, mark_of, front_lexeme as front_lexeme_of, without_blanks as without_blanks_of, jobs_word};
 
 use crate::arithmetic::Operator;
+use jl_numbers::{count_digits, read_decimal};
+
+/// The most digits of a number.
+pub(crate) const MOST_DIGITS: usize = 18;
+
+// The largest number of as many digits.
+const MOST_WHOLE: u64 = 999_999_999_999_999_999;
 
 /// A number, the word `n_jobs`, an operator or a bracket.
 #[derive(Clone, Copy)]
-pub(crate) enum Sign {
+pub(crate) enum Lexeme {
     Whole(i64),
     Jobs,
     Infix(Operator),
@@ -15,71 +24,54 @@ pub(crate) enum Sign {
     Closing,
 }
 
-fn is_digit(b: u8) -> bool
-    ensures { result ≡ is_digit_of b }
+// The number that digits write.
+fn whole_number(digits: &[u8]) -> i64
+    requires few { length digits.now ≤ MOST_DIGITS }
+    requires digits { are_digits digits.now ≡ true }
+    ensures { result ≡ pos (decimal digits.now) }
 {
-    b >= b'0' && b <= b'9'
+    read_decimal(digits, MOST_WHOLE).unwrap() as i64
 }
 
-#[tactic(auto, using(std::proofs::lemmas::List::Sums::prefix_len_is))]
-fn digit_count(bytes: &[u8]) -> usize
-    ensures count { result ≡ prefix_len is_digit_of bytes.now }
-    ensures bound { result ≤ length bytes.now }
-    ensures digits { (k : ℕ) → k < result → is_digit_of (slice_index bytes.now k) ≡ true }
-{
-    for (i, b) in bytes.iter().enumerate() {
-        if !is_digit(*b) {
-            return i;
-        }
-    }
-    bytes.len()
-}
-
-fn decimal(digits: &[u8]) -> i64
-    requires few { length digits.now ≤ 18 }
-    requires digits { (k : ℕ) → k < length digits.now → is_digit_of (slice_index digits.now k) ≡ true }
-    ensures { result ≡ pos (decimal_of digits.now) }
-{
-    let mut value: u64 = 0;
-    for digit in digits {
-        value = value * 10 + u64::from(*digit - b'0');
-    }
-    value as i64
-}
-
-fn whole(bytes: &[u8]) -> Option<(Sign, &[u8])>
-    requires { 0 < prefix_len is_digit_of bytes.now }
-    ensures sign { MatchOption result (whole_at bytes.now ≡ None) (λ r. whole_at bytes.now ≡ Some (r.0, r.1.now)) }
+fn whole(bytes: &[u8]) -> Option<(Lexeme, &[u8])>
+    requires { 0 < prefix_len is_ascii_digit bytes.now }
+    ensures lexeme { MatchOption result (whole_at bytes.now ≡ None)
+        (λ r. whole_at bytes.now ≡ Some (r.0, r.1.now)) }
     ensures shorter { IfSome result (λ r. length r.1.now < length bytes.now) }
 {
-    let count = digit_count(bytes);
-    if count > 18 {
+    let count = count_digits(bytes);
+    if count > MOST_DIGITS {
         return None;
     }
-    Some((Sign::Whole(decimal(&bytes[..count])), &bytes[count..]))
+    Some((
+        Lexeme::Whole(whole_number(&bytes[..count])),
+        &bytes[count..],
+    ))
 }
 
-#[tactic(auto, unfolding(crate::specs::Signs::jobs_word))]
-fn jobs(bytes: &[u8]) -> Option<(Sign, &[u8])>
-    ensures sign { MatchOption result (jobs_at bytes.now ≡ None) (λ r. jobs_at bytes.now ≡ Some (r.0, r.1.now)) }
+#[tactic(auto, unfolding(crate::specs::Lexemes::jobs_word))]
+fn jobs(bytes: &[u8]) -> Option<(Lexeme, &[u8])>
+    ensures lexeme { MatchOption result (jobs_at bytes.now ≡ None)
+        (λ r. jobs_at bytes.now ≡ Some (r.0, r.1.now)) }
     ensures shorter { IfSome result (λ r. length r.1.now < length bytes.now) }
 {
     if bytes.starts_with(b"n_jobs".as_slice()) {
-        Some((Sign::Jobs, &bytes[6..]))
+        Some((Lexeme::Jobs, &bytes[6..]))
     } else {
         None
     }
 }
 
-fn over(rest: &[u8]) -> Option<(Sign, &[u8])>
-    ensures sign { MatchOption result (over_at rest.now ≡ None) (λ r. over_at rest.now ≡ Some (r.0, r.1.now)) }
+fn over(rest: &[u8]) -> Option<(Lexeme, &[u8])>
+    ensures lexeme { MatchOption result (over_at rest.now ≡ None)
+        (λ r. over_at rest.now ≡ Some (r.0, r.1.now)) }
     ensures shorter { IfSome result (λ r. length r.1.now < length rest.now) }
 {
     match rest {
         [] => None,
         [second, behind @ ..] => {
             if *second == b'/' {
-                Some((Sign::Infix(Operator::Over), behind))
+                Some((Lexeme::Infix(Operator::Over), behind))
             } else {
                 None
             }
@@ -87,29 +79,30 @@ fn over(rest: &[u8]) -> Option<(Sign, &[u8])>
     }
 }
 
-fn mark(b: u8) -> Option<Sign>
+fn mark(b: u8) -> Option<Lexeme>
     ensures { result ≡ mark_of b }
 {
     match b {
-        b'+' => Some(Sign::Infix(Operator::Plus)),
-        b'-' => Some(Sign::Infix(Operator::Minus)),
-        b'*' => Some(Sign::Infix(Operator::Times)),
-        b'%' => Some(Sign::Infix(Operator::Modulo)),
-        b'(' => Some(Sign::Opening),
-        b')' => Some(Sign::Closing),
+        b'+' => Some(Lexeme::Infix(Operator::Plus)),
+        b'-' => Some(Lexeme::Infix(Operator::Minus)),
+        b'*' => Some(Lexeme::Infix(Operator::Times)),
+        b'%' => Some(Lexeme::Infix(Operator::Modulo)),
+        b'(' => Some(Lexeme::Opening),
+        b')' => Some(Lexeme::Closing),
         _ => None,
     }
 }
 
-/// The sign at the front of a text, and what stands behind it.
-pub(crate) fn front_sign(bytes: &[u8]) -> Option<(Sign, &[u8])>
-    ensures sign { MatchOption result (front_sign_of bytes.now ≡ None) (λ r. front_sign_of bytes.now ≡ Some (r.0, r.1.now)) }
+/// The lexeme at the front of a text, and what stands behind it.
+pub(crate) fn front_lexeme(bytes: &[u8]) -> Option<(Lexeme, &[u8])>
+    ensures lexeme { MatchOption result (front_lexeme_of bytes.now ≡ None)
+        (λ r. front_lexeme_of bytes.now ≡ Some (r.0, r.1.now)) }
     ensures shorter { IfSome result (λ r. length r.1.now < length bytes.now) }
 {
     match bytes {
         [] => None,
         [first, rest @ ..] => {
-            if is_digit(*first) {
+            if first.is_ascii_digit() {
                 return whole(bytes);
             }
             if *first == b'n' {
@@ -118,10 +111,8 @@ pub(crate) fn front_sign(bytes: &[u8]) -> Option<(Sign, &[u8])>
             if *first == b'/' {
                 return over(rest);
             }
-            match mark(*first) {
-                Some(sign) => Some((sign, rest)),
-                None => None,
-            }
+            let lexeme = mark(*first)?;
+            Some((lexeme, rest))
         }
     }
 }

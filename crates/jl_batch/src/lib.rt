@@ -4,16 +4,12 @@
 mod arithmetic;
 mod auto;
 mod jobs;
-mod machine;
+mod lexer;
+mod parser;
 mod pre_dispatch;
-mod signs;
 mod window;
 
-pub use arithmetic::division_rounds_down;
 pub use auto::{Auto, BatchSize, Step, replay};
 pub use jobs::{ZeroJobs, effective_jobs};
 pub use pre_dispatch::{PreDispatchFault, read_pre_dispatch};
 pub use window::Window;
-
-#[cfg(test)]
-mod tests;

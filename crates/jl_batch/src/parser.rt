@@ -1,12 +1,19 @@
-// Reads an expression sign by sign, with the brackets that are open on a stack of their own.
+// The parser of expressions, which reads lexeme by lexeme (shift and reduce), with the brackets that
+// are open on a stack of their own.
 ghost use Rattle.std.specs.Prelude.{◌≡◌, ◌∷◌, [], ◌==◌, pos, MatchOption, nat_lt, length, if◌then◌else◌};
 ghost use Rattle.jl_batch.specs.Expressions.{negated as negated_of};
-ghost use Rattle.jl_batch.specs.declared.signs.Sign.TheVariants.{Infix, Closing};
-ghost use Rattle.jl_batch.specs.Machine.{fresh as fresh_of, joined as joined_of, total as total_of, with_operand as with_operand_of, with_minus as with_minus_of, opened as opened_of, expecting as expecting_of, behind as behind_of, step as step_of, finished, started};
+ghost use Rattle.jl_batch.specs.declared.lexer.Lexeme.TheVariants.{Infix, Closing};
+ghost use Rattle.jl_batch.specs.Parser.{fresh as fresh_of, joined as joined_of, total as total_of, with_operand as with_operand_of, with_minus as with_minus_of, opened as opened_of, expecting as expecting_of, behind as behind_of, step as step_of, finished, started};
 
 use crate::arithmetic::{Operator, apply, is_tight};
-use crate::signs::Sign;
+use crate::lexer::Lexeme;
 use std::marker::Model;
+
+/// How deep brackets and minus signs nest at most.
+pub(crate) const MOST_DEPTH: u32 = 32;
+
+// As many levels.
+const LEVELS: usize = 32;
 
 /// A value and the operator behind it.
 #[derive(Clone, Copy)]
@@ -28,20 +35,21 @@ pub(crate) struct Level {
 /// The levels around the innermost one, which contracts see from within.
 #[derive(Drop)]
 pub(crate) struct Outer {
-    levels: [Level; 32],
+    levels: [Level; LEVELS],
     count: usize,
 }
 
 impl Model for Outer {
     ghost use Rattle.std.specs.Prelude.{List, ◌≤◌};
-    ghost use Rattle.jl_batch.specs.declared.machine.Level.{Level};
+    ghost use Rattle.jl_batch.specs.declared.parser.Level.{Level};
     ghost use Rattle.jl_batch.specs.Levels.{levels_below};
+    ghost use Rattle.jl_batch.specs.declared.parser.TheConstants.{LEVELS};
 
     ghost Value = { List Level };
 
     ghost view = { λ o. levels_below o.count o.levels };
 
-    ghost invariant = { λ o. o.count ≤ 32 };
+    ghost invariant = { λ o. o.count ≤ LEVELS };
 }
 
 /// What was read so far: a factor's value where an operator may follow it.
@@ -68,7 +76,7 @@ impl Outer {
         ensures { result ≡ [] }
     {
         Outer {
-            levels: [fresh(0); 32],
+            levels: [fresh(0); LEVELS],
             count: 0,
         }
     }
@@ -76,10 +84,11 @@ impl Outer {
     /// Whether there was room for a level.
     #[tactic(auto, using(crate::proofs::LevelLemmas::stack_laws))]
     fn push(&mut self, level: Level) -> bool
-        ensures pushed { result ≡ nat_lt (length self.old) 32 }
-        ensures after { self.new ≡ (if nat_lt (length self.old) 32 then level ∷ self.old else self.old) }
+        ensures pushed { result ≡ nat_lt (length self.old) LEVELS }
+        ensures after { self.new
+            ≡ (if nat_lt (length self.old) LEVELS then level ∷ self.old else self.old) }
     {
-        if self.count >= 32 {
+        if self.count >= LEVELS {
             return false;
         }
         self.levels[self.count] = level;
@@ -104,7 +113,7 @@ impl Outer {
     }
 }
 
-fn joined(pending: Option<Pending>, x: i64) -> Option<i64>
+fn join(pending: Option<Pending>, x: i64) -> Option<i64>
     ensures { result ≡ joined_of pending x }
 {
     match pending {
@@ -116,12 +125,12 @@ fn joined(pending: Option<Pending>, x: i64) -> Option<i64>
 fn total(level: Level, x: i64) -> Option<i64>
     ensures { result ≡ total_of level x }
 {
-    let term = joined(level.term, x)?;
-    joined(level.sum, term)
+    let term = join(level.term, x)?;
+    join(level.sum, term)
 }
 
 #[tactic(auto, using(crate::proofs::NegationLemmas::minus_laws))]
-fn negated(minuses: u32, x: i64) -> Option<i64>
+fn negate(minuses: u32, x: i64) -> Option<i64>
     ensures { result ≡ negated_of minuses x }
 {
     let mut value = x;
@@ -136,7 +145,7 @@ fn negated(minuses: u32, x: i64) -> Option<i64>
 fn with_operand(level: Level, outer: Outer, x: i64) -> Option<Reader>
     ensures { result ≡ with_operand_of level outer x }
 {
-    let value = negated(level.minuses, x)?;
+    let value = negate(level.minuses, x)?;
     Some(Reader {
         level: Level {
             minuses: 0,
@@ -163,7 +172,7 @@ fn with_minus(level: Level, outer: Outer) -> Option<Reader>
     })
 }
 
-fn opened(level: Level, mut outer: Outer) -> Option<Reader>
+fn open_bracket(level: Level, mut outer: Outer) -> Option<Reader>
     ensures { result ≡ opened_of level outer }
 {
     if level.minuses >= level.room {
@@ -179,15 +188,15 @@ fn opened(level: Level, mut outer: Outer) -> Option<Reader>
     })
 }
 
-fn expecting(jobs: u32, level: Level, outer: Outer, sign: Sign) -> Option<Reader>
-    ensures { result ≡ expecting_of (pos jobs) level outer sign }
+fn step_at_operand(jobs: u32, level: Level, outer: Outer, lexeme: Lexeme) -> Option<Reader>
+    ensures { result ≡ expecting_of (pos jobs) level outer lexeme }
 {
-    match sign {
-        Sign::Whole(n) => with_operand(level, outer, n),
-        Sign::Jobs => with_operand(level, outer, i64::from(jobs)),
-        Sign::Infix(Operator::Minus) => with_minus(level, outer),
-        Sign::Opening => opened(level, outer),
-        Sign::Infix(_) | Sign::Closing => None,
+    match lexeme {
+        Lexeme::Whole(n) => with_operand(level, outer, n),
+        Lexeme::Jobs => with_operand(level, outer, i64::from(jobs)),
+        Lexeme::Infix(Operator::Minus) => with_minus(level, outer),
+        Lexeme::Opening => open_bracket(level, outer),
+        Lexeme::Infix(_) | Lexeme::Closing => None,
     }
 }
 
@@ -195,7 +204,7 @@ fn with_infix(level: Level, outer: Outer, x: i64, operator: Operator) -> Option<
     ensures { result ≡ behind_of level outer x (Infix operator) }
 {
     if is_tight(operator) {
-        let value = joined(level.term, x)?;
+        let value = join(level.term, x)?;
         return Some(Reader {
             level: Level {
                 term: Some(Pending { value, operator }),
@@ -219,7 +228,7 @@ fn with_infix(level: Level, outer: Outer, x: i64, operator: Operator) -> Option<
     })
 }
 
-fn closed(level: Level, mut outer: Outer, x: i64) -> Option<Reader>
+fn close_bracket(level: Level, mut outer: Outer, x: i64) -> Option<Reader>
     ensures { result ≡ behind_of level outer x Closing }
 {
     let value = total(level, x)?;
@@ -227,13 +236,13 @@ fn closed(level: Level, mut outer: Outer, x: i64) -> Option<Reader>
     with_operand(around, outer, value)
 }
 
-fn behind(level: Level, outer: Outer, x: i64, sign: Sign) -> Option<Reader>
-    ensures { result ≡ behind_of level outer x sign }
+fn step_at_operator(level: Level, outer: Outer, x: i64, lexeme: Lexeme) -> Option<Reader>
+    ensures { result ≡ behind_of level outer x lexeme }
 {
-    match sign {
-        Sign::Infix(operator) => with_infix(level, outer, x, operator),
-        Sign::Closing => closed(level, outer, x),
-        Sign::Whole(_) | Sign::Jobs | Sign::Opening => None,
+    match lexeme {
+        Lexeme::Infix(operator) => with_infix(level, outer, x, operator),
+        Lexeme::Closing => close_bracket(level, outer, x),
+        Lexeme::Whole(_) | Lexeme::Jobs | Lexeme::Opening => None,
     }
 }
 
@@ -242,19 +251,19 @@ impl Reader {
         ensures { result ≡ started }
     {
         Reader {
-            level: fresh(32),
+            level: fresh(MOST_DEPTH),
             outer: Outer::new(),
             value: None,
         }
     }
 
-    /// After one more sign, if it may stand there.
-    pub(crate) fn step(self, jobs: u32, sign: Sign) -> Option<Reader>
-        ensures { result ≡ step_of (pos jobs) self sign }
+    /// After one more lexeme, if it may stand there.
+    pub(crate) fn step(self, jobs: u32, lexeme: Lexeme) -> Option<Reader>
+        ensures { result ≡ step_of (pos jobs) self lexeme }
     {
         match self.value {
-            None => expecting(jobs, self.level, self.outer, sign),
-            Some(x) => behind(self.level, self.outer, x, sign),
+            None => step_at_operand(jobs, self.level, self.outer, lexeme),
+            Some(x) => step_at_operator(self.level, self.outer, x, lexeme),
         }
     }
 

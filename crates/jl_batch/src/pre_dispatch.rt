@@ -1,17 +1,20 @@
 // Reads how many tasks may be in flight.
 ghost use Rattle.std.specs.Prelude.{◌≡◌, ◌↔◌, List, ℤ, pos, IsTrue, IfSome, MatchOption, MatchResult};
-ghost use Rattle.jl_batch.specs.declared.signs.Sign.{Sign};
+ghost use Rattle.jl_batch.specs.declared.lexer.Lexeme.{Lexeme};
 ghost use Rattle.jl_batch.specs.declared.window.Window.TheVariants.{All};
-ghost use Rattle.jl_batch.specs.Signs.{HasSigns};
-ghost use Rattle.jl_batch.specs.Machine.{run, started};
+ghost use Rattle.jl_batch.specs.Lexemes.{HasLexemes};
+ghost use Rattle.jl_batch.specs.Parser.{run, started};
 ghost use Rattle.std.specs.Result.{result_ok};
 ghost use Rattle.jl_batch.specs.Reads.{value_in, window_of};
 ghost use Rattle.jl_batch.specs.Windows.{IsWorth, IsAskedFor, IsFaulty, window_at as window_at_of, all_word};
 
-use crate::machine::Reader;
-use crate::signs::{front_sign, without_blanks};
+use crate::lexer::{front_lexeme, without_blanks};
+use crate::parser::Reader;
 use crate::window::Window;
 use thiserror::Error;
+
+/// More tasks than these are not in flight at once.
+const MOST_WINDOW: i64 = 1_000_000;
 
 /// Why a text is no window.
 #[derive(Debug, Drop, Clone, Copy, PartialEq, Eq, Error)]
@@ -22,17 +25,19 @@ pub enum PreDispatchFault {
     BelowOne,
 }
 
-// The value that the signs of a text lead to.
+// The value that the lexemes of a text lead to.
 fn run_text(text: &[u8], jobs: u32) -> Option<i64>
-    ensures some { IfSome result (λ v. (ss : List Sign) × HasSigns text.now ss × (run (pos jobs) started ss ≡ Some v)) }
-    ensures only { (ss : List Sign) → HasSigns text.now ss → result ≡ run (pos jobs) started ss }
+    ensures some { IfSome result (λ v. (ss : List Lexeme) × HasLexemes text.now ss
+        × (run (pos jobs) started ss ≡ Some v)) }
+    ensures only { (ss : List Lexeme) → HasLexemes text.now ss
+        → result ≡ run (pos jobs) started ss }
     ensures reads { result ≡ value_in text.now jobs }
 {
     let mut reader = Reader::new();
     let mut left = text;
-    'signs: loop {
-        let (sign, rest) = front_sign(left)?;
-        reader = reader.step(jobs, sign)?;
+    'lexemes: loop {
+        let (lexeme, rest) = front_lexeme(left)?;
+        reader = reader.step(jobs, lexeme)?;
         if rest.is_empty() {
             return reader.finish();
         }
@@ -41,7 +46,8 @@ fn run_text(text: &[u8], jobs: u32) -> Option<i64>
 }
 
 fn value_of(text: &[u8], jobs: u32) -> Option<i64>
-    ensures some { MatchOption result ((v : ℤ) → IsWorth text.now jobs v → ⊥) (λ v. IsWorth text.now jobs v) }
+    ensures some { MatchOption result ((v : ℤ) → IsWorth text.now jobs v → ⊥)
+        (λ v. IsWorth text.now jobs v) }
     ensures only { (v : ℤ) → IsWorth text.now jobs v → result ≡ Some v }
     ensures reads { result ≡ value_in text.now jobs }
 {
@@ -54,7 +60,7 @@ fn window_at(value: i64) -> Result<Window, PreDispatchFault>
     if value < 1 {
         return Err(PreDispatchFault::BelowOne);
     }
-    Ok(Window::Tasks(value.min(1_000_000) as u32))
+    Ok(Window::Tasks(value.min(MOST_WINDOW) as u32))
 }
 
 #[tactic(auto, unfolding(crate::specs::Windows::all_word))]
@@ -66,10 +72,11 @@ fn is_all(text: &[u8]) -> bool
 
 /// The window that a text asks for: `all`, or how many tasks. The text is an expression of whole
 /// numbers of at most 18 digits and `n_jobs` with Python's `+`, `-`, `*`, `//`, `%` and brackets, in
-/// signed 64 bits. Blanks may stand between its signs, and brackets and minus signs nest at most 32
+/// signed 64 bits. Blanks may stand between its lexemes, and brackets and minus signs nest at most 32
 /// deep. More than 1,000,000 tasks act as 1,000,000.
 pub fn read_pre_dispatch(text: &str, jobs: u32) -> Result<Window, PreDispatchFault>
-    ensures window { MatchResult result (λ window. IsAskedFor text.now jobs window) (λ fault. IsFaulty text.now jobs fault) }
+    ensures window { MatchResult result (λ window. IsAskedFor text.now jobs window)
+        (λ fault. IsFaulty text.now jobs fault) }
     ensures all { text.now ≡ all_word → result ≡ Ok All }
     ensures value { (v : ℤ) → IsWorth text.now jobs v → result ≡ window_at_of v }
     ensures reads { result_ok result ≡ window_of text.now jobs }
