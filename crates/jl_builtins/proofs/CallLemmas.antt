@@ -1,19 +1,21 @@
 -- What the functions of every module make of lists.
-use Rattle.std.proofs.Common.{◌≡◌, ℕ, zero, suc, ◌+◌, ◌<◌, ◌≤◌, true, false, List, [], ◌∷◌, ◌++◌, length, refl, sym, ap, ap₂, ◌∙◌, subst, arith}
-use Rattle.std.specs.Prelude.{◌-◌, nat_lt, MatchResult, Result, Ok, ℤ, pos, ◌+ℤ◌}
+use Rattle.std.proofs.Common.{◌≡◌, ℕ, zero, suc, ◌+◌, ◌<◌, ◌≤◌, true, false, List, [], ◌∷◌, ◌++◌, length, min, refl, sym, ap, ap₂, ◌∙◌, subst, arith}
+use Rattle.std.specs.Prelude.{◌-◌, ◌&&◌, MatchResult, Option, Some, None, Result, Ok, Err, ℤ, pos, ◌+ℤ◌}
+use lib.IntN.{◌-ℤ◌}
 use Rattle.std.proofs.lemmas.Int.{ints}
 use Rattle.jl_value.specs.declared.library.TaskError.{TaskError}
-use Rattle.jl_value.specs.declared.library.TaskError.TheVariants.{TooLong}
-use Rattle.jl_value.specs.Tree.{Tree, list, Items, no_items, item, items_of, members_of}
+use Rattle.jl_value.specs.declared.library.TaskError.TheVariants.{BadKind, TooLong}
+use Rattle.jl_value.specs.Tree.{Tree, whole, list, numbers, Items, no_items, item, items_of, members_of}
 use Rattle.jl_value.specs.Form.{tree_of, trees_of, entries_of}
 use Rattle.jl_value.specs.declared.value.Value.{Value}
 use Rattle.jl_value.specs.declared.value.Value.TheVariants.{Whole, List as Listed, Table as Tabled}
 use Rattle.jl_builtins.specs.declared.fault.CallFault.{CallFault}
 use Rattle.jl_builtins.specs.Arithmetic.{whole_within}
-use Rattle.jl_builtins.specs.Steps.{done, failed, counted, items_weight}
+use Rattle.jl_builtins.specs.Steps.{done, failed, counted, operated, steps_within, weight, items_weight}
 use Rattle.jl_builtins.specs.Operations.{both_items, items_length}
-use Rattle.jl_builtins.specs.Calls.{members_length, length_of, items_from}
+use Rattle.jl_builtins.specs.Calls.{members_length, length_of, items_from, members_to, is_whole_tree, are_whole, array_behind}
 use Rattle.jl_builtins.specs.Outcomes.{Refuses}
+use Rattle.jl_builtins.proofs.CountLemmas.{counted_with, counted_is, counted_on, counted_over}
 
 items_count : (vs : List Value) → items_length (items_of (trees_of vs)) ≡ length vs
 items_count [] = refl
@@ -70,23 +72,73 @@ from_weight : (z : ℤ) (n : ℕ) → items_weight (items_from z n) ≡ n
 from_weight z zero = refl
 from_weight z (suc n) = let more = from_weight (z +ℤ pos 1) n in omega arith
 
-over : (n w : ℕ) → 16777216 < n + (1 + w) → nat_lt 16777216 (n + (1 + w)) ≡ true
-over n w h = grind arith
+-- the weight of a range
+pub range_weight : (a b : ℤ) (k n : ℕ) → k ≡ members_to (b -ℤ a) → n ≡ min (k + 1) 18446744073709551615 → n ≡ min (weight (list (items_from a (members_to (b -ℤ a))))) 18446744073709551615
+range_weight a b k n e same = let w = from_weight a (members_to (b -ℤ a)) in omega arith
 
-under : (n w : ℕ) → n + (1 + w) ≤ 16777216 → nat_lt 16777216 (n + (1 + w)) ≡ false
-under n w h = grind arith
+pub range_made : (o : Option ℕ) (n m k s : ℕ) (a b : ℤ) (l : List Tree) (vs : List Value) → k ≡ members_to (b -ℤ a) → m ≡ min (k + 1) 18446744073709551615 → o ≡ steps_within (n + m) → o ≡ Some s → l ≡ trees_of vs → items_of (trees_of vs) ≡ items_from a k
+    → counted n (list (items_from a (members_to (b -ℤ a)))) ≡ done (list (items_of l)) s
+range_made o n m k s a b l vs e w same there made is =
+    counted_on o n m s (list (items_from a (members_to (b -ℤ a)))) (range_weight a b k m e w) same there
+    ∙ ap (λ ts. done (list ts) s) (ap (items_from a) (sym e) ∙ sym is ∙ ap items_of (sym made))
 
-pub range_long : (n k m : ℕ) (z : ℤ) → n ≤ 16777216 → k ≡ m → 16777216 - n ≤ k → counted n (list (items_from z m)) ≡ failed TooLong
-range_long n k m z low same long = let w = from_weight z m in rw (over n (items_weight (items_from z m)) (omega arith))
+pub range_over : (o : Option ℕ) (n m k : ℕ) (a b : ℤ) → k ≡ members_to (b -ℤ a) → m ≡ min (k + 1) 18446744073709551615 → o ≡ steps_within (n + m) → o ≡ None → counted n (list (items_from a (members_to (b -ℤ a)))) ≡ failed TooLong
+range_over o n m k a b e w same there = counted_over o n m (list (items_from a (members_to (b -ℤ a)))) (range_weight a b k m e w) same there
 
-count_more : (n k m : ℕ) → m ≡ k → n + (1 + m) ≡ n + k + 1
-count_more n k m e = omega arith
+-- ---- arrays
 
-pub range_short : (n k m : ℕ) (z : ℤ) (l : List Tree) (vs : List Value) → n ≤ 16777216 → k ≡ m → k < 16777216 - n → l ≡ trees_of vs → items_of (trees_of vs) ≡ items_from z k
-    → (counted n (list (items_from z m)) ≡ done (list (items_of l)) (n + k + 1)) × (n + k + 1 ≤ 16777216)
-range_short n k m z l vs low same short made is =
-    let w = from_weight z m in (
-      rw (under n (items_weight (items_from z m)) (omega arith))
-          (ap₂ (λ t c. done (list t) c) (ap (items_from z) (sym same) ∙ sym is ∙ ap items_of (sym made)) (count_more n k (items_weight (items_from z m)) (w ∙ sym same))),
-      omega arith,
-    )
+-- an array of so many numbers is to be made
+record IsArray (r : Result Tree TaskError) (n : ℕ) : Type 0 where
+  made : List ℤ
+  is : r ≡ Ok (numbers made)
+  count : length made ≡ n
+
+one_more : (zs : List ℤ) (z : ℤ) → length (zs ++ z ∷ []) ≡ suc (length zs)
+one_more [] z = refl
+one_more (y ∷ ys) z = ap suc (one_more ys z)
+
+array_step : (t : Tree) (ts : Items) (zs : List ℤ) → (is_whole_tree t && are_whole ts) ≡ true
+    → ((ys : List ℤ) → are_whole ts ≡ true → IsArray (array_behind ys ts) (length ys + items_length ts))
+    → IsArray (array_behind zs (item t ts)) (length zs + items_length (item t ts))
+array_step (whole z) ts zs h more =
+    let one = one_more zs z in let rest = more (zs ++ z ∷ []) h in let n = rest.count in
+    record { made = rest.made; is = rest.is; count = omega arith }
+array_step _ ts zs h more = absurd (cc)
+
+array_there : (zs : List ℤ) (ts : Items) → are_whole ts ≡ true → IsArray (array_behind zs ts) (length zs + items_length ts)
+array_there zs no_items h = record { made = zs; is = refl; count = omega arith }
+array_there zs (item t ts) h = array_step t ts zs h (λ ys k. array_there ys ts k)
+
+kind_step : (t : Tree) (ts : Items) (zs : List ℤ) → (is_whole_tree t && are_whole ts) ≡ false
+    → ((ys : List ℤ) → are_whole ts ≡ false → array_behind ys ts ≡ Err BadKind)
+    → array_behind zs (item t ts) ≡ Err BadKind
+kind_step (whole z) ts zs h more = more (zs ++ z ∷ []) h
+kind_step _ ts zs h more = refl
+
+-- a list with another member makes no array
+pub no_array : (zs : List ℤ) (ts : Items) → are_whole ts ≡ false → array_behind zs ts ≡ Err BadKind
+no_array zs no_items h = absurd (cc)
+no_array zs (item t ts) h = kind_step t ts zs h (λ ys k. no_array ys ts k)
+
+operated_by : (o : Option ℕ) (n m : ℕ) (r : Result Tree TaskError) (k : ℕ) → IsArray r k → m ≡ min (1 + k) 18446744073709551615 → o ≡ steps_within (n + m) → (zs : List ℤ) × (r ≡ Ok (numbers zs)) × (operated n r ≡ counted_with o (numbers zs))
+operated_by o n m r k a e same =
+    let count = a.count in
+    (a.made, a.is, ap (operated n) a.is ∙ counted_is o n m (numbers a.made) (omega arith) same)
+
+-- what an array of a list comes to, which is counted by the length of the list
+pub array_counted : (o : Option ℕ) (n m : ℕ) (vs : List Value) → are_whole (items_of (trees_of vs)) ≡ true → m ≡ min (1 + length vs) 18446744073709551615 → o ≡ steps_within (n + m)
+    → (zs : List ℤ) × (array_behind [] (items_of (trees_of vs)) ≡ Ok (numbers zs)) × (operated n (array_behind [] (items_of (trees_of vs))) ≡ counted_with o (numbers zs))
+array_counted o n m vs h e same =
+    let count = items_count vs in
+    operated_by o n m (array_behind [] (items_of (trees_of vs))) (0 + items_length (items_of (trees_of vs))) (array_there [] (items_of (trees_of vs)) h) (omega arith) same
+
+pub array_made : (o : Option ℕ) (n m s : ℕ) (vs : List Value) (v : Value) → are_whole (items_of (trees_of vs)) ≡ true → m ≡ min (1 + length vs) 18446744073709551615 → o ≡ steps_within (n + m) → o ≡ Some s → array_behind [] (items_of (trees_of vs)) ≡ Ok (tree_of v)
+    → operated n (array_behind [] (items_of (trees_of vs))) ≡ done (tree_of v) s
+array_made o n m s vs v h e same there made =
+    let a = array_counted o n m vs h e same in
+    let is : numbers a.0 ≡ tree_of v = (let both = sym a.1 ∙ made in cc) in
+    a.2 ∙ ap (λ p. counted_with p (numbers a.0)) there ∙ ap (λ (t : Tree). done t s) is
+
+pub array_long : (o : Option ℕ) (n m : ℕ) (vs : List Value) → are_whole (items_of (trees_of vs)) ≡ true → m ≡ min (1 + length vs) 18446744073709551615 → o ≡ steps_within (n + m) → o ≡ None
+    → operated n (array_behind [] (items_of (trees_of vs))) ≡ failed TooLong
+array_long o n m vs h e same there = let a = array_counted o n m vs h e same in a.2 ∙ ap (λ p. counted_with p (numbers a.0)) there

@@ -1,5 +1,5 @@
+pub mod CountLemmas
 pub mod TableLemmas
 pub mod CallLemmas
 pub mod OperationLemmas
 pub mod KeyLemmas
-pub mod Division

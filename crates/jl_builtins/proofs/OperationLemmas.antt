@@ -6,14 +6,17 @@ use Rattle.jl_value.specs.Tree.{Tree, whole, list, item, items_of}
 use Rattle.jl_value.specs.Form.{tree_of, trees_of}
 use Rattle.jl_value.specs.declared.value.Value.{Value}
 use Rattle.jl_value.specs.declared.value.Value.TheVariants.{List as Listed}
-use Rattle.jl_builtins.specs.Operations.{both_items, sum_of, place_of, items_length, item_at, number_at, at_place}
+use Rattle.jl_lexer.specs.declared.operators.Operator.{Operator}
+use Rattle.jl_lexer.specs.declared.operators.Operator.TheVariants.{Plus}
+use Rattle.jl_builtins.specs.Steps.{counted, operated}
+use Rattle.jl_builtins.specs.Operations.{operation, is_plus, both_items, sum_of, place_of, items_length, item_at, number_at, at_place}
 
 pub both : (a b : List Tree) → both_items (items_of a) (items_of b) ≡ items_of (a ++ b)
 both [] b = refl
 both (t ∷ ts) b = ap (item t) (both ts b)
 
-pub list_sum : (v w : Value) (a b l : List Tree) → v ≡ Listed a → w ≡ Listed b → l ≡ a ++ b → sum_of (tree_of v) (tree_of w) ≡ Ok (list (items_of l))
-list_sum v w a b l e f g = ap₂ (λ x y. sum_of (tree_of x) (tree_of y)) e f ∙ ap (λ is. Ok (list is)) (both a b) ∙ ap (λ l. Ok (list (items_of l))) (sym g)
+pub list_added : (n : ℕ) (v w : Value) (a b : List Tree) → v ≡ Listed a → w ≡ Listed b → counted n (list (items_of (a ++ b))) ≡ operated n (sum_of (tree_of v) (tree_of w))
+list_added n v w a b e f = sym (ap₂ (λ x y. operated n (sum_of (tree_of x) (tree_of y))) e f ∙ ap (λ is. counted n (list is)) (both a b))
 
 -- the item at a place within
 pub item_is : (vs : List Value) (n : ℕ) (d : Value) → n < length vs → item_at (items_of (trees_of vs)) n ≡ Ok (tree_of (get_or vs n d))
@@ -61,3 +64,8 @@ number_none (z ∷ zs) (suc n) h = number_none zs n (omega arith)
 
 pub number_missing : (zs : List ℤ) (z : ℤ) (n : ℕ) → place_of (length zs) z ≡ Some n → length zs ≤ n → at_place (number_at zs) (place_of (length zs) z) ≡ Err BadIndex
 number_missing zs z n e h = ap (at_place (number_at zs)) e ∙ number_none zs n h
+
+-- the one operator that joins
+pub plus_sum : (o : Operator) (v w : Tree) → is_plus o ≡ true → operation o v w ≡ sum_of v w
+plus_sum Plus v w h = refl
+plus_sum _ v w h = absurd (cc)

@@ -12,6 +12,7 @@ abbrev pub wholes : List ℤ → List Tree
 wholes [] = []
 wholes (z ∷ zs) = whole z ∷ wholes zs
 
+-- what a list goes over, where there is any
 abbrev pub source_of : Tree → Option (List Tree)
 source_of (list ts) = Some (list_of ts)
 source_of (numbers zs) = Some (wholes zs)
@@ -54,6 +55,7 @@ Answers if_so [] (b ∷ bs) = ⊥
 Answers if_so (u ∷ us) [] = ⊥
 Answers if_so (u ∷ us) (b ∷ bs) = ((n : ℕ) × (m : ℕ) × (if_so u n ≡ done (truth b) m)) × Answers if_so us bs
 
+-- how many are true
 abbrev pub trues : List Bool → ℕ
 trues [] = 0
 trues (true ∷ bs) = suc (trues bs)

@@ -14,10 +14,12 @@ use Rattle.jl_lexer.specs.declared.operators.Operator.{Operator}
 use Rattle.jl_lexer.specs.declared.operators.Operator.TheVariants.{Or, And, Equal, Unequal, Less, AtMost, Greater, AtLeast, Plus, Minus, Times, Quotient, Remainder}
 use Rattle.jl_lexer.specs.declared.operators.Prefix.{Prefix}
 use Rattle.jl_lexer.specs.declared.operators.Prefix.TheVariants.{Not, Negative}
-use Rattle.jl_builtins.specs.declared.settled.Settled.{Settled}
-use Rattle.jl_builtins.specs.declared.settled.Settled.TheVariants.{Known, Open, Wrong, Both}
-use Rattle.jl_builtins.specs.Arithmetic.{whole_within, divided, floor_quotient, floor_rest}
+use Rattle.jl_builtins.specs.declared.left_side.Settled.{Settled}
+use Rattle.jl_builtins.specs.declared.left_side.Settled.TheVariants.{Known, Open, Wrong, Both}
+use Rattle.jl_numbers.specs.Division.{floor_quotient, floor_rest}
+use Rattle.jl_builtins.specs.Arithmetic.{whole_within, divided}
 
+-- the members of two lists
 abbrev pub both_items : Items → Items → Items
 both_items no_items us = us
 both_items (item t ts) us = item t (both_items ts us)
@@ -42,6 +44,7 @@ holds below same above Below = below
 holds below same above Same = same
 holds below same above Above = above
 
+-- the truth of an order, where there is one
 abbrev pub tested : (Ordering → Bool) → Option Ordering → Result Tree TaskError
 tested test None = Err BadKind
 tested test (Some o) = Ok (truth (test o))
@@ -66,6 +69,11 @@ is_arithmetic Minus = true
 is_arithmetic Times = true
 is_arithmetic Quotient = true
 is_arithmetic Remainder = true
+
+-- the operator that joins
+abbrev pub is_plus : Operator → Bool
+is_plus Plus = true
+is_plus _ = false
 
 -- an operator, where both sides have values
 abbrev pub operation : Operator → Tree → Tree → Result Tree TaskError
@@ -94,24 +102,29 @@ abbrev pub place_of : ℕ → ℤ → Option ℕ
 place_of n (pos i) = if nat_lt i n then Some i else None
 place_of n (negsuc i) = if nat_lt i n then Some (n - suc i) else None
 
+-- how many members a list has
 abbrev pub items_length : Items → ℕ
 items_length no_items = 0
 items_length (item t ts) = suc (items_length ts)
 
+-- the member of a list at a place from 0
 abbrev pub item_at : Items → ℕ → Result Tree TaskError
 item_at no_items n = Err BadIndex
 item_at (item t ts) zero = Ok t
 item_at (item t ts) (suc n) = item_at ts n
 
+-- the number of an array at a place from 0
 abbrev pub number_at : List ℤ → ℕ → Result Tree TaskError
 number_at [] n = Err BadIndex
 number_at (z ∷ zs) zero = Ok (whole z)
 number_at (z ∷ zs) (suc n) = number_at zs n
 
+-- the member of a table at a key
 abbrev pub member_of : List ℕ → Members → Result Tree TaskError
 member_of k no_members = Err BadIndex
 member_of k (member l t ms) = if bytes_eq k l then Ok t else member_of k ms
 
+-- what stands at a place, where there is one
 abbrev pub at_place : (ℕ → Result Tree TaskError) → Option ℕ → Result Tree TaskError
 at_place f None = Err BadIndex
 at_place f (Some n) = f n

@@ -1,4 +1,5 @@
 -- What operators, functions and lists make of proper values is proper.
+-- Machinery: nothing here need be believed.
 use Rattle.std.specs.Prelude.{int_lt, ◌≡◌, ◌<◌, ◌≤ℤ◌, ℕ, zero, suc, ◌+◌, Bool, true, false, nat_lt, nat_eq, if◌then◌else◌, unsigned_abs, ℤ, pos, negsuc, ◌+ℤ◌, List, [], ◌∷◌, ◌++◌, length, count_by, Option, Some, None, Result, Ok, Err, refl}
 use lib.IntN.{◌-ℤ◌, ◌*ℤ◌, neg_ℤ}
 use Rattle.std.proofs.Common.{arith, subst, lit<}
@@ -17,7 +18,8 @@ use Rattle.jl_lexer.specs.declared.operators.Prefix.TheVariants.{Not, Negative}
 use Rattle.jl_lexer.specs.declared.operators.Function.{Function}
 use Rattle.jl_lexer.specs.declared.operators.Function.TheVariants.{Len, Sum, Min, Max, Range, Array}
 use Rattle.jl_builtins.specs.Steps.{Ran, done, failed, then', counted, operated, weight}
-use Rattle.jl_builtins.specs.Arithmetic.{is_whole, within_64, whole_if, whole_within, divided, floor_quotient, floor_rest}
+use Rattle.jl_numbers.specs.Division.{is_64, within_64, floor_quotient, floor_rest}
+use Rattle.jl_builtins.specs.Arithmetic.{whole_if, whole_within, divided}
 use Rattle.jl_builtins.specs.Operations.{both_items, sum_of, compared, holds, tested, on_wholes, operation, prefixed, place_of, items_length, item_at, number_at, member_of, at_place, element_of}
 use Rattle.jl_builtins.specs.Calls.{begins_character, members_length, length_of, sum_behind, numbers_sum, with_whole, items_sum, sum_of_all, better, numbers_best, items_best, best_of, array_behind, array_of, items_from, members_to, range_of, call_value}
 use Rattle.jl_builtins.specs.Lists.{wholes, source_of, each_over, picked, filtered_over, over}
@@ -47,7 +49,7 @@ pub operated_proper : (n : ℕ) (r : Result Tree TaskError) → IsMade r → IsD
 operated_proper n (Ok v) h = counted_proper n v h
 operated_proper n (Err e) h = tt
 
-whole_by : (z : ℤ) → is_whole z ≡ true → IsWhole z
+whole_by : (z : ℤ) → is_64 z ≡ true → IsWhole z
 whole_by (pos n) h = grind arith
 whole_by (negsuc n) h = grind arith
 
@@ -56,7 +58,7 @@ whole_if_proper true z h = h refl
 whole_if_proper false z h = tt
 
 within_made : (z : ℤ) → IsMade (whole_within z)
-within_made z = whole_if_proper (is_whole z) z (whole_by z)
+within_made z = whole_if_proper (is_64 z) z (whole_by z)
 
 made_if : (b : Bool) (e : TaskError) (r : Result Tree TaskError) → IsMade r → IsMade (if b then Err e else r)
 made_if true e r h = tt
@@ -147,7 +149,7 @@ within_is true z y h e = let same : z ≡ y = cc in subst IsWhole same (h refl)
 within_is false z y h e = absurd (cc)
 
 whole_in : (z y : ℤ) → within_64 z ≡ Some y → IsWhole y
-whole_in z y e = within_is (is_whole z) z y (whole_by z) e
+whole_in z y e = within_is (is_64 z) z y (whole_by z) e
 
 numbers_sum_made : (n : ℤ) (zs : List ℤ) → IsWhole n → IsMade (numbers_sum n zs)
 numbers_sum_made n [] h = h

@@ -1,4 +1,5 @@
 -- A table with one more member is a table.
+-- Machinery: nothing here need be believed.
 use Rattle.std.specs.Prelude.{◌≡◌, ◌≢◌, ℕ, Bool, true, false, if◌then◌else◌, List, [], ◌∷◌, Option, Some, None, refl}
 use Rattle.std.proofs.Common.{ap, ◌∙◌}
 use Rattle.std.specs.Ordering.{nat_cmp, ordering_reverse, match_ordering}

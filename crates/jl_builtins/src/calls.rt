@@ -1,15 +1,18 @@
-ghost use Rattle.std.specs.Prelude.{◌≡◌, ◌≤◌, ◌+ℤ◌, [], IfOk, MatchResult, Ok, true, false, pos, count_by};
+// What the functions that every module has make of values.
+ghost use Rattle.std.specs.Prelude.{◌≡◌, ◌+ℤ◌, [], IfOk, Ok, true, false, pos, count_by};
 ghost use lib.IntN.{◌-ℤ◌};
 ghost use Rattle.jl_value.specs.Proper.{IsWhole};
 ghost use Rattle.jl_value.specs.Form.{tree_of, trees_of};
 ghost use Rattle.jl_value.specs.Tree.{whole, items_of};
 ghost use Rattle.jl_builtins.specs.Arithmetic.{whole_within};
 ghost use Rattle.jl_builtins.specs.Steps.{operated};
-ghost use Rattle.jl_builtins.specs.Calls.{begins_character as begins_character_of, length_of, numbers_sum as numbers_sum_of, IsNumber, items_sum as items_sum_of, sum_of_all, better as better_of, numbers_best as numbers_best_of, items_best as items_best_of, first_best, first_number, best_of, array_behind, array_of as array_value, items_from, members_to, range_of, call_value};
-ghost use Rattle.jl_builtins.specs.Outcomes.{Refuses, IsRan, IsFailing};
+ghost use Rattle.jl_builtins.specs.Calls.{begins_character as begins_character_of, length_of, numbers_sum as numbers_sum_of, IsNumber, items_sum as items_sum_of, sum_of_all, better as better_of, numbers_best as numbers_best_of, items_best as items_best_of, first_best, first_number, best_of, array_behind, array_of as array_value, is_whole_tree, are_whole as are_whole_of, items_from, members_to, range_of, call_value};
+ghost use Rattle.jl_builtins.specs.Outcomes.{Makes, Runs};
 
-use crate::counting::{Counted, count_value};
+use crate::counting::{Counted, count_copy, count_value};
 use crate::fault::CallFault;
+use crate::steps::Steps;
+use crate::weights::length_weight;
 use jl_lexer::Function;
 use jl_value::{List, Numbers, TaskError, Value};
 use std::alloc::{AllocError, Global};
@@ -27,7 +30,7 @@ fn characters(text: &[u8]) -> usize
 }
 
 fn count_of(count: usize) -> Result<Value, CallFault>
-    ensures { MatchResult result (λ v. whole_within (pos count) ≡ Ok (tree_of v)) (λ e. Refuses e (whole_within (pos count))) }
+    ensures { Makes result (whole_within (pos count)) }
 {
     if count > 9_223_372_036_854_775_807 {
         return Err(CallFault::Task(TaskError::Overflow));
@@ -36,7 +39,7 @@ fn count_of(count: usize) -> Result<Value, CallFault>
 }
 
 fn len(value: &Value) -> Result<Value, CallFault>
-    ensures { MatchResult result (λ v. length_of (tree_of value.now) ≡ Ok (tree_of v)) (λ e. Refuses e (length_of (tree_of value.now))) }
+    ensures { Makes result (length_of (tree_of value.now)) }
 {
     match value {
         Value::Text(text) => count_of(characters(text.as_str().as_bytes())),
@@ -50,7 +53,7 @@ fn len(value: &Value) -> Result<Value, CallFault>
 }
 
 fn numbers_sum(numbers: &[i64]) -> Result<Value, CallFault>
-    ensures { MatchResult result (λ v. numbers_sum_of (pos 0) numbers.now ≡ Ok (tree_of v)) (λ e. Refuses e (numbers_sum_of (pos 0) numbers.now)) }
+    ensures { Makes result (numbers_sum_of (pos 0) numbers.now) }
 {
     let mut total: i64 = 0;
     for number in numbers {
@@ -77,7 +80,7 @@ fn whole_of(value: &Value) -> Option<i64>
 }
 
 fn items_sum(items: &[Value]) -> Result<Value, CallFault>
-    ensures { MatchResult result (λ v. items_sum_of (pos 0) (items_of (trees_of items.now)) ≡ Ok (tree_of v)) (λ e. Refuses e (items_sum_of (pos 0) (items_of (trees_of items.now)))) }
+    ensures { Makes result (items_sum_of (pos 0) (items_of (trees_of items.now))) }
 {
     let mut total: i64 = 0;
     for item in items {
@@ -93,7 +96,7 @@ fn items_sum(items: &[Value]) -> Result<Value, CallFault>
 }
 
 fn sum(value: &Value) -> Result<Value, CallFault>
-    ensures { MatchResult result (λ v. sum_of_all (tree_of value.now) ≡ Ok (tree_of v)) (λ e. Refuses e (sum_of_all (tree_of value.now))) }
+    ensures { Makes result (sum_of_all (tree_of value.now)) }
 {
     match value {
         Value::List(list) => items_sum(list.as_slice()),
@@ -113,7 +116,7 @@ fn better(least: bool, best: i64, number: i64) -> i64
 }
 
 fn numbers_best(least: bool, numbers: &[i64]) -> Result<Value, CallFault>
-    ensures { MatchResult result (λ v. first_number least numbers.now ≡ Ok (tree_of v)) (λ e. Refuses e (first_number least numbers.now)) }
+    ensures { Makes result (first_number least numbers.now) }
 {
     let [first, rest @ ..] = numbers else {
         return Err(CallFault::Task(TaskError::BadIndex));
@@ -132,7 +135,7 @@ fn best_number(least: bool, first: i64, numbers: &[i64]) -> i64
 }
 
 fn best_item(least: bool, first: i64, items: &[Value]) -> Result<Value, CallFault>
-    ensures { MatchResult result (λ v. items_best_of least first (items_of (trees_of items.now)) ≡ Ok (tree_of v)) (λ e. Refuses e (items_best_of least first (items_of (trees_of items.now)))) }
+    ensures { Makes result (items_best_of least first (items_of (trees_of items.now))) }
 {
     let mut best = first;
     for item in items {
@@ -145,7 +148,7 @@ fn best_item(least: bool, first: i64, items: &[Value]) -> Result<Value, CallFaul
 }
 
 fn items_best(least: bool, items: &[Value]) -> Result<Value, CallFault>
-    ensures { MatchResult result (λ v. first_best least (items_of (trees_of items.now)) ≡ Ok (tree_of v)) (λ e. Refuses e (first_best least (items_of (trees_of items.now)))) }
+    ensures { Makes result (first_best least (items_of (trees_of items.now))) }
 {
     let [first, rest @ ..] = items else {
         return Err(CallFault::Task(TaskError::BadIndex));
@@ -157,7 +160,7 @@ fn items_best(least: bool, items: &[Value]) -> Result<Value, CallFault>
 }
 
 fn best(least: bool, value: &Value) -> Result<Value, CallFault>
-    ensures { MatchResult result (λ v. best_of least (tree_of value.now) ≡ Ok (tree_of v)) (λ e. Refuses e (best_of least (tree_of value.now))) }
+    ensures { Makes result (best_of least (tree_of value.now)) }
 {
     match value {
         Value::List(list) => items_best(least, list.as_slice()),
@@ -166,10 +169,30 @@ fn best(least: bool, value: &Value) -> Result<Value, CallFault>
     }
 }
 
-fn array_of(alloc: Global, items: &[Value]) -> Result<Value, CallFault>
-    ensures { MatchResult result (λ v. array_behind [] (items_of (trees_of items.now)) ≡ Ok (tree_of v)) (λ e. Refuses e (array_behind [] (items_of (trees_of items.now)))) }
+fn is_whole(value: &Value) -> bool
+    ensures { result ≡ is_whole_tree (tree_of value.now) }
 {
-    let mut numbers = Vec::new(alloc);
+    match value {
+        Value::Whole(_) => true,
+        _ => false,
+    }
+}
+
+fn are_whole(items: &[Value]) -> bool
+    ensures { result ≡ are_whole_of (items_of (trees_of items.now)) }
+{
+    for item in items {
+        if !is_whole(item) {
+            return false;
+        }
+    }
+    true
+}
+
+fn numbers_of(alloc: Global, items: &[Value]) -> Result<Value, CallFault>
+    ensures { Makes result (array_behind [] (items_of (trees_of items.now))) }
+{
+    let mut numbers = Vec::with_capacity(alloc, items.len())?;
     for item in items {
         let Some(number) = whole_of(item) else {
             return Err(CallFault::Task(TaskError::BadKind));
@@ -179,12 +202,28 @@ fn array_of(alloc: Global, items: &[Value]) -> Result<Value, CallFault>
     Ok(Value::Numbers(Numbers::new(numbers)))
 }
 
-fn array(alloc: Global, value: &Value) -> Result<Value, CallFault>
-    ensures { MatchResult result (λ v. array_value (tree_of value.now) ≡ Ok (tree_of v)) (λ e. Refuses e (array_value (tree_of value.now))) }
+// The array of a list's numbers, which is counted before it is made.
+fn array_of(alloc: Global, items: &[Value], steps: Steps) -> Result<Counted, CallFault>
+    ensures { Runs result (operated steps (array_behind [] (items_of (trees_of items.now)))) }
+{
+    if !are_whole(items) {
+        return Err(CallFault::Task(TaskError::BadKind));
+    }
+    match steps.checked_add(length_weight(items.len())) {
+        Some(steps) => Ok(Counted {
+            value: numbers_of(alloc, items)?,
+            steps,
+        }),
+        None => Err(CallFault::Task(TaskError::TooLong)),
+    }
+}
+
+fn array(alloc: Global, value: &Value, steps: Steps) -> Result<Counted, CallFault>
+    ensures { Runs result (operated steps (array_value (tree_of value.now))) }
 {
     match value {
-        Value::List(list) => array_of(alloc, list.as_slice()),
-        Value::Numbers(numbers) => Ok(Value::Numbers(numbers.copy(alloc)?)),
+        Value::List(list) => array_of(alloc, list.as_slice(), steps),
+        Value::Numbers(_) => count_copy(alloc, value, steps),
         _ => Err(CallFault::Task(TaskError::BadKind)),
     }
 }
@@ -194,7 +233,7 @@ fn numbers_from(alloc: Global, first: i64, count: u64) -> Result<Vec<Value>, All
     requires { IsWhole (first +ℤ pos count) }
     ensures { IfOk result (λ v. items_of (trees_of v.items) ≡ items_from first count) }
 {
-    let mut members = Vec::new(alloc);
+    let mut members = Vec::with_capacity(alloc, count as usize)?;
     let mut next = first;
     let mut made: u64 = 0;
     'members: while made < count {
@@ -215,40 +254,39 @@ fn members_between(first: i64, end: i64) -> u64
     end.abs_diff(first)
 }
 
-/// The list of the whole numbers from one to below another, which is counted before it is made.
-fn range(alloc: Global, first: i64, end: i64, count: u64) -> Result<Counted, CallFault>
-    requires { count ≤ 16777216 }
-    ensures { MatchResult result (λ c. IsRan c (operated count (range_of (whole first) (whole end)))) (λ e. IsFailing e (operated count (range_of (whole first) (whole end)))) }
+// The list of the whole numbers from one to below another, which is counted before it is made.
+fn range(alloc: Global, first: i64, end: i64, steps: Steps) -> Result<Counted, CallFault>
+    ensures { Runs result (operated steps (range_of (whole first) (whole end))) }
 {
     let members = members_between(first, end);
-    if members >= 16_777_216 - count {
-        return Err(CallFault::Task(TaskError::TooLong));
+    match steps.checked_add(members.saturating_add(1)) {
+        Some(steps) => {
+            let list = List::new(numbers_from(alloc, first, members)?);
+            Ok(Counted {
+                value: Value::List(list),
+                steps,
+            })
+        }
+        None => Err(CallFault::Task(TaskError::TooLong)),
     }
-    let list = List::new(numbers_from(alloc, first, members)?);
-    Ok(Counted {
-        value: Value::List(list),
-        count: count + members + 1,
-    })
 }
 
-fn range_to(alloc: Global, end: &Value, count: u64) -> Result<Counted, CallFault>
-    requires { count ≤ 16777216 }
-    ensures { MatchResult result (λ c. IsRan c (operated count (range_of (whole (pos 0)) (tree_of end.now)))) (λ e. IsFailing e (operated count (range_of (whole (pos 0)) (tree_of end.now)))) }
+fn range_to(alloc: Global, end: &Value, steps: Steps) -> Result<Counted, CallFault>
+    ensures { Runs result (operated steps (range_of (whole (pos 0)) (tree_of end.now))) }
 {
     match end {
-        Value::Whole(end) => range(alloc, 0, *end, count),
+        Value::Whole(end) => range(alloc, 0, *end, steps),
         _ => Err(CallFault::Task(TaskError::BadKind)),
     }
 }
 
 /// `range(first, end)`.
-pub fn span(alloc: Global, first: &Value, end: &Value, count: u64) -> Result<Counted, CallFault>
-    requires { count ≤ 16777216 }
-    ensures { MatchResult result (λ c. IsRan c (operated count (range_of (tree_of first.now) (tree_of end.now)))) (λ e. IsFailing e (operated count (range_of (tree_of first.now) (tree_of end.now)))) }
+pub fn span(alloc: Global, first: &Value, end: &Value, steps: Steps) -> Result<Counted, CallFault>
+    ensures { Runs result (operated steps (range_of (tree_of first.now) (tree_of end.now))) }
 {
     match first {
         Value::Whole(first) => match end {
-            Value::Whole(end) => range(alloc, *first, *end, count),
+            Value::Whole(end) => range(alloc, *first, *end, steps),
             _ => Err(CallFault::Task(TaskError::BadKind)),
         },
         _ => Err(CallFault::Task(TaskError::BadKind)),
@@ -260,17 +298,16 @@ pub fn call(
     alloc: Global,
     function: Function,
     member: &Value,
-    count: u64,
+    steps: Steps,
 ) -> Result<Counted, CallFault>
-    requires { count ≤ 16777216 }
-    ensures { MatchResult result (λ c. IsRan c (operated count (call_value function (tree_of member.now)))) (λ e. IsFailing e (operated count (call_value function (tree_of member.now)))) }
+    ensures { Runs result (operated steps (call_value function (tree_of member.now))) }
 {
     match function {
-        Function::Len => count_value(len(member)?, count),
-        Function::Sum => count_value(sum(member)?, count),
-        Function::Min => count_value(best(true, member)?, count),
-        Function::Max => count_value(best(false, member)?, count),
-        Function::Range => range_to(alloc, member, count),
-        Function::Array => count_value(array(alloc, member)?, count),
+        Function::Len => count_value(len(member)?, steps),
+        Function::Sum => count_value(sum(member)?, steps),
+        Function::Min => count_value(best(true, member)?, steps),
+        Function::Max => count_value(best(false, member)?, steps),
+        Function::Range => range_to(alloc, member, steps),
+        Function::Array => array(alloc, member, steps),
     }
 }

@@ -1,47 +1,78 @@
-// Values and the count of the steps that made them.
-ghost use Rattle.std.specs.Prelude.{◌≤◌, MatchResult};
-ghost use Rattle.jl_value.specs.Form.{tree_of};
-ghost use Rattle.jl_builtins.specs.Steps.{counted as counted_of};
-ghost use Rattle.jl_builtins.specs.Outcomes.{IsRan, IsFailing};
+// Values and the count of the steps that made them. What a value weighs is counted before it is
+// made.
+ghost use Rattle.std.specs.Prelude.{◌≡◌};
+ghost use Rattle.jl_value.specs.Form.{tree_of, trees_of};
+ghost use Rattle.jl_value.specs.Proper.{AreKeys, keys};
+ghost use Rattle.jl_value.specs.Tree.{list, table, items_of, members_of};
+ghost use Rattle.jl_builtins.specs.Steps.{counted};
+ghost use Rattle.jl_builtins.specs.Outcomes.{Runs, pairs_in};
 
 use crate::fault::CallFault;
-use crate::weights::weight;
-use jl_value::{TaskError, Value};
+use crate::lists::{pairs, table_of};
+use crate::steps::Steps;
+use crate::weights::{items_weight, members_weight, weight};
+use jl_value::{List, TaskError, Value};
 use std::alloc::Global;
+use std::collections::BTreeMap;
 
 /// A value and the count of steps so far.
 #[derive(Drop)]
 pub struct Counted {
     pub value: Value,
-    pub count: u64,
+    pub steps: Steps,
 }
 
-/// Counts a value that was made.
-pub fn count_value(value: Value, count: u64) -> Result<Counted, CallFault>
-    requires { count ≤ 16777216 }
-    ensures { MatchResult result (λ c. IsRan c (counted_of count (tree_of value))) (λ e. IsFailing e (counted_of count (tree_of value))) }
+/// Counts a value that was moved here.
+pub fn count_value(value: Value, steps: Steps) -> Result<Counted, CallFault>
+    ensures { Runs result (counted steps (tree_of value)) }
 {
-    let more = weight(&value);
-    if more > 16_777_216 - count {
-        return Err(CallFault::Task(TaskError::TooLong));
+    match steps.checked_add(weight(&value)) {
+        Some(steps) => Ok(Counted { value, steps }),
+        None => Err(CallFault::Task(TaskError::TooLong)),
     }
-    Ok(Counted {
-        value,
-        count: count + more,
-    })
 }
 
 /// Counts a value before it is copied.
-pub fn counted_copy(alloc: Global, value: &Value, count: u64) -> Result<Counted, CallFault>
-    requires { count ≤ 16777216 }
-    ensures { MatchResult result (λ c. IsRan c (counted_of count (tree_of value.now))) (λ e. IsFailing e (counted_of count (tree_of value.now))) }
+pub fn count_copy(alloc: Global, value: &Value, steps: Steps) -> Result<Counted, CallFault>
+    ensures { Runs result (counted steps (tree_of value.now)) }
 {
-    let more = weight(value);
-    if more > 16_777_216 - count {
-        return Err(CallFault::Task(TaskError::TooLong));
+    match steps.checked_add(weight(value)) {
+        Some(steps) => Ok(Counted {
+            value: value.copy(alloc)?,
+            steps,
+        }),
+        None => Err(CallFault::Task(TaskError::TooLong)),
     }
-    Ok(Counted {
-        value: value.copy(alloc)?,
-        count: count + more,
-    })
+}
+
+/// Counts the list of some members before it is made.
+pub fn count_list(members: Vec<Value>, steps: Steps) -> Result<Counted, CallFault>
+    ensures { Runs result (counted steps (list (items_of (trees_of members.items)))) }
+{
+    match steps.checked_add(items_weight(members.as_slice()).saturating_add(1)) {
+        Some(steps) => Ok(Counted {
+            value: Value::List(List::new(members)),
+            steps,
+        }),
+        None => Err(CallFault::Task(TaskError::TooLong)),
+    }
+}
+
+/// Counts the table of a map's keys and values before it is made.
+pub fn count_table(
+    alloc: Global,
+    members: BTreeMap<String, Value>,
+    steps: Steps,
+) -> Result<Counted, CallFault>
+    requires { AreKeys (keys (members_of (pairs_in members.entries))) }
+    ensures { Runs result (counted steps (table (members_of (pairs_in members.entries)))) }
+{
+    let members = pairs(alloc, members)?;
+    match steps.checked_add(members_weight(members.as_slice()).saturating_add(1)) {
+        Some(steps) => Ok(Counted {
+            value: table_of(members),
+            steps,
+        }),
+        None => Err(CallFault::Task(TaskError::TooLong)),
+    }
 }

@@ -1,11 +1,9 @@
 // The values that lists are made of, and tables.
-ghost use Rattle.std.specs.Prelude.{◌≡◌, ◌≢◌, ℕ, List, IfOk, MatchResult, Ok, Some};
-ghost use Rattle.jl_value.specs.Form.{tree_of, trees_of, entries_of};
-ghost use Rattle.jl_value.specs.Proper.{AreKeys, keys};
-ghost use Rattle.jl_value.specs.Tree.{Tree, table as table_tree, members_of};
-ghost use Rattle.jl_builtins.specs.declared.fault.CallFault.TheVariants.{NoMemory};
-ghost use Rattle.jl_builtins.specs.Lists.{source_of, with_entry, wholes as wholes_of};
-ghost use Rattle.jl_builtins.specs.Operations.{member_of};
+ghost use Rattle.std.specs.Prelude.{◌≡◌, IfOk, MatchResult, Some};
+ghost use Rattle.jl_value.specs.Form.{tree_of, trees_of, entries_of, keys_in};
+ghost use Rattle.jl_value.specs.Proper.{AreKeys};
+ghost use Rattle.jl_value.specs.Tree.{table as table_tree, members_of};
+ghost use Rattle.jl_builtins.specs.Lists.{source_of, wholes as wholes_of};
 ghost use Rattle.jl_builtins.specs.Outcomes.{NoSource, pairs_in};
 
 use crate::fault::CallFault;
@@ -17,7 +15,7 @@ use std::collections::BTreeMap;
 fn wholes(alloc: Global, numbers: &[i64]) -> Result<Vec<Value>, AllocError>
     ensures { IfOk result (λ v. trees_of v.items ≡ wholes_of numbers.now) }
 {
-    let mut values = Vec::new(alloc);
+    let mut values = Vec::with_capacity(alloc, numbers.len())?;
     for number in numbers {
         values.push(Value::Whole(*number))?;
     }
@@ -26,20 +24,24 @@ fn wholes(alloc: Global, numbers: &[i64]) -> Result<Vec<Value>, AllocError>
 
 /// The values that a list goes over: the members of a list or an array.
 pub fn source(alloc: Global, value: Value) -> Result<Vec<Value>, CallFault>
-    ensures { MatchResult result (λ v. source_of (tree_of value) ≡ Some (trees_of v.items)) (λ e. NoSource e (source_of (tree_of value))) }
+    ensures { MatchResult result
+        (λ v. source_of (tree_of value) ≡ Some (trees_of v.items))
+        (λ e. NoSource e (source_of (tree_of value))) }
 {
     match value {
         Value::List(list) => Ok(list.into_vec()),
         Value::Numbers(numbers) => Ok(wholes(alloc, numbers.as_slice())?),
-        Value::Null => Err(CallFault::Task(TaskError::BadKind)),
-        Value::Truth(_) => Err(CallFault::Task(TaskError::BadKind)),
-        Value::Whole(_) => Err(CallFault::Task(TaskError::BadKind)),
-        Value::Text(_) => Err(CallFault::Task(TaskError::BadKind)),
-        Value::Table(_) => Err(CallFault::Task(TaskError::BadKind)),
+        other => {
+            drop(other);
+            Err(CallFault::Task(TaskError::BadKind))
+        }
     }
 }
 
-fn pairs(alloc: Global, members: BTreeMap<String, Value>) -> Result<Vec<(Text, Value)>, AllocError>
+pub(crate) fn pairs(
+    alloc: Global,
+    members: BTreeMap<String, Value>,
+) -> Result<Vec<(Text, Value)>, AllocError>
     ensures { IfOk result (λ v. entries_of v.items ≡ pairs_in members.entries) }
 {
     let mut found = Vec::new(alloc);
@@ -49,22 +51,13 @@ fn pairs(alloc: Global, members: BTreeMap<String, Value>) -> Result<Vec<(Text, V
     Ok(found)
 }
 
-/// The table of a map's keys and values.
-pub fn table(alloc: Global, members: BTreeMap<String, Value>) -> Result<Value, CallFault>
-    requires { AreKeys (keys (members_of (pairs_in members.entries))) }
-    ensures { MatchResult result (λ v. tree_of v ≡ table_tree (members_of (pairs_in members.entries))) (λ e. e ≡ NoMemory) }
+// The table of keys and values that are in order.
+pub(crate) fn table_of(members: Vec<(Text, Value)>) -> Value
+    requires { AreKeys (keys_in members.items) }
+    ensures { tree_of result ≡ table_tree (members_of (entries_of members.items)) }
 {
-    match Table::new(pairs(alloc, members)?) {
-        Ok(table) => Ok(Value::Table(table)),
-        Err(_) => {
-            prove!(false);
-            Err(CallFault::NoMemory)
-        }
+    match Table::new(members) {
+        Ok(table) => Value::Table(table),
+        Err(_) => unreachable!(),
     }
 }
-
-/// Of two equal keys of a table the later stands, and the others keep their values.
-pub fn the_later_key_stands()
-    ensures stands { (k : List ℕ) (v : Tree) (kvs : List (List ℕ × Tree)) → member_of k (members_of (with_entry (Some k) v kvs)) ≡ Ok v }
-    ensures others { (k l : List ℕ) (v : Tree) (kvs : List (List ℕ × Tree)) → l ≢ k → member_of l (members_of (with_entry (Some k) v kvs)) ≡ member_of l (members_of kvs) }
-{}

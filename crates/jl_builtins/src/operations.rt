@@ -1,19 +1,24 @@
-ghost use Rattle.std.specs.Prelude.{◌≡◌, ◌<◌, ◌++◌, IfOk, MatchOption, MatchResult, Ok, Err, Some, length, true};
+// What operators, `not`, a minus and an index make of values.
+ghost use Rattle.std.specs.Prelude.{◌≡◌, ◌++◌, IfOk, MatchOption, Ok, Err, length, true, false};
 ghost use Rattle.jl_value.specs.Form.{tree_of, trees_of, entries_of};
-ghost use Rattle.jl_value.specs.Tree.{whole, items_of, members_of};
+ghost use Rattle.jl_value.specs.Tree.{whole, text, list, numbers, items_of, members_of};
 ghost use Rattle.jl_value.specs.declared.library.TaskError.TheVariants.{BadIndex};
-ghost use Rattle.jl_builtins.specs.Operations.{sum_of, compared as compared_of, holds, tested as tested_of, operation as operation_of, prefixed as prefixed_of, place_of, item_at, number_at, at_place, items_length, member_of, element_of, is_arithmetic};
-ghost use Rattle.jl_builtins.specs.Outcomes.{Refuses};
+ghost use Rattle.jl_builtins.specs.Operations.{sum_of, compared as compared_of, holds, tested as tested_of, operation as operation_of, prefixed as prefixed_of, place_of, item_at, number_at, at_place, items_length, member_of, element_of, is_arithmetic, is_plus as is_plus_of};
+ghost use Rattle.jl_builtins.specs.Steps.{counted, operated};
+ghost use Rattle.jl_builtins.specs.Outcomes.{Makes, Runs};
 
 use crate::arithmetic::{difference, negative, product, quotient, remainder, whole_sum};
+use crate::counting::{Counted, count_copy, count_value};
 use crate::fault::CallFault;
+use crate::steps::Steps;
+use crate::weights::{items_weight, length_weight};
 use jl_lexer::{Operator, Prefix};
 use jl_text::Text;
 use jl_value::{List, Numbers, TaskError, Value};
 use std::alloc::{AllocError, Global};
 use std::cmp::Ordering;
 
-fn joined_text(alloc: Global, left: &Text, right: &Text) -> Result<Text, AllocError>
+fn join_texts(alloc: Global, left: &Text, right: &Text) -> Result<Text, AllocError>
     ensures { IfOk result (λ t. t ≡ left.now ++ right.now) }
 {
     let mut text = String::from_str(alloc, left.as_str())?;
@@ -21,7 +26,11 @@ fn joined_text(alloc: Global, left: &Text, right: &Text) -> Result<Text, AllocEr
     Ok(Text::new(text))
 }
 
-fn copied(alloc: Global, mut members: Vec<Value>, more: &[Value]) -> Result<Vec<Value>, AllocError>
+fn copy_onto(
+    alloc: Global,
+    mut members: Vec<Value>,
+    more: &[Value],
+) -> Result<Vec<Value>, AllocError>
     ensures { IfOk result (λ v. trees_of v.items ≡ trees_of members.items ++ trees_of more.now) }
 {
     for member in more {
@@ -30,14 +39,14 @@ fn copied(alloc: Global, mut members: Vec<Value>, more: &[Value]) -> Result<Vec<
     Ok(members)
 }
 
-fn joined_list(alloc: Global, left: &List, right: &List) -> Result<List, AllocError>
+fn join_lists(alloc: Global, left: &List, right: &List) -> Result<List, AllocError>
     ensures { IfOk result (λ l. l ≡ left.now ++ right.now) }
 {
-    let members = copied(alloc, Vec::new(alloc), left.as_slice())?;
-    Ok(List::new(copied(alloc, members, right.as_slice())?))
+    let members = copy_onto(alloc, Vec::new(alloc), left.as_slice())?;
+    Ok(List::new(copy_onto(alloc, members, right.as_slice())?))
 }
 
-fn joined_numbers(alloc: Global, left: &Numbers, right: &Numbers) -> Result<Numbers, AllocError>
+fn join_arrays(alloc: Global, left: &Numbers, right: &Numbers) -> Result<Numbers, AllocError>
     ensures { IfOk result (λ n. n ≡ left.now ++ right.now) }
 {
     let mut numbers = Vec::from_slice(alloc, left.as_slice())?;
@@ -45,32 +54,79 @@ fn joined_numbers(alloc: Global, left: &Numbers, right: &Numbers) -> Result<Numb
     Ok(Numbers::new(numbers))
 }
 
+// Two texts as one, which is counted before it is made.
+fn add_texts(alloc: Global, left: &Text, right: &Text, steps: Steps) -> Result<Counted, CallFault>
+    ensures { Runs result (counted steps (text (left.now ++ right.now))) }
+{
+    let more = length_weight(left.as_str().len()).saturating_add(right.as_str().len() as u64);
+    match steps.checked_add(more) {
+        Some(steps) => Ok(Counted {
+            value: Value::Text(join_texts(alloc, left, right)?),
+            steps,
+        }),
+        None => Err(CallFault::Task(TaskError::TooLong)),
+    }
+}
+
+// Two lists as one, which is counted before it is made.
+fn add_lists(alloc: Global, left: &List, right: &List, steps: Steps) -> Result<Counted, CallFault>
+    ensures { Runs result (counted steps (list (items_of (left.now ++ right.now)))) }
+{
+    let both = items_weight(left.as_slice()).saturating_add(items_weight(right.as_slice()));
+    match steps.checked_add(both.saturating_add(1)) {
+        Some(steps) => Ok(Counted {
+            value: Value::List(join_lists(alloc, left, right)?),
+            steps,
+        }),
+        None => Err(CallFault::Task(TaskError::TooLong)),
+    }
+}
+
+// Two arrays as one, which is counted before it is made.
+fn add_arrays(
+    alloc: Global,
+    left: &Numbers,
+    right: &Numbers,
+    steps: Steps,
+) -> Result<Counted, CallFault>
+    ensures { Runs result (counted steps (numbers (left.now ++ right.now))) }
+{
+    let more = length_weight(left.as_slice().len()).saturating_add(right.as_slice().len() as u64);
+    match steps.checked_add(more) {
+        Some(steps) => Ok(Counted {
+            value: Value::Numbers(join_arrays(alloc, left, right)?),
+            steps,
+        }),
+        None => Err(CallFault::Task(TaskError::TooLong)),
+    }
+}
+
 /// The sum of two whole numbers, or two texts, lists or arrays joined.
-fn sum(alloc: Global, left: &Value, right: &Value) -> Result<Value, CallFault>
-    ensures { MatchResult result (λ v. sum_of (tree_of left.now) (tree_of right.now) ≡ Ok (tree_of v)) (λ e. Refuses e (sum_of (tree_of left.now) (tree_of right.now))) }
+fn add(alloc: Global, left: &Value, right: &Value, steps: Steps) -> Result<Counted, CallFault>
+    ensures { Runs result (operated steps (sum_of (tree_of left.now) (tree_of right.now))) }
 {
     match left {
         Value::Whole(left) => match right {
-            Value::Whole(right) => whole_sum(*left, *right),
+            Value::Whole(right) => count_value(whole_sum(*left, *right)?, steps),
             _ => Err(CallFault::Task(TaskError::BadKind)),
         },
         Value::Text(left) => match right {
-            Value::Text(right) => Ok(Value::Text(joined_text(alloc, left, right)?)),
+            Value::Text(right) => add_texts(alloc, left, right, steps),
             _ => Err(CallFault::Task(TaskError::BadKind)),
         },
         Value::List(left) => match right {
-            Value::List(right) => Ok(Value::List(joined_list(alloc, left, right)?)),
+            Value::List(right) => add_lists(alloc, left, right, steps),
             _ => Err(CallFault::Task(TaskError::BadKind)),
         },
         Value::Numbers(left) => match right {
-            Value::Numbers(right) => Ok(Value::Numbers(joined_numbers(alloc, left, right)?)),
+            Value::Numbers(right) => add_arrays(alloc, left, right, steps),
             _ => Err(CallFault::Task(TaskError::BadKind)),
         },
         _ => Err(CallFault::Task(TaskError::BadKind)),
     }
 }
 
-fn compared(left: &Value, right: &Value) -> Option<Ordering>
+fn compare(left: &Value, right: &Value) -> Option<Ordering>
     ensures { result ≡ compared_of (tree_of left.now) (tree_of right.now) }
 {
     match left {
@@ -86,8 +142,13 @@ fn compared(left: &Value, right: &Value) -> Option<Ordering>
     }
 }
 
-fn tested(order: Option<Ordering>, below: bool, same: bool, above: bool) -> Result<Value, CallFault>
-    ensures { MatchResult result (λ v. tested_of (holds below same above) order ≡ Ok (tree_of v)) (λ e. Refuses e (tested_of (holds below same above) order)) }
+fn test_order(
+    order: Option<Ordering>,
+    below: bool,
+    same: bool,
+    above: bool,
+) -> Result<Value, CallFault>
+    ensures { Makes result (tested_of (holds below same above) order) }
 {
     match order {
         Some(Ordering::Less) => Ok(Value::Truth(below)),
@@ -99,7 +160,7 @@ fn tested(order: Option<Ordering>, below: bool, same: bool, above: bool) -> Resu
 
 fn arithmetic(operator: Operator, left: i64, right: i64) -> Result<Value, CallFault>
     requires { is_arithmetic operator ≡ true }
-    ensures { MatchResult result (λ v. operation_of operator (whole left) (whole right) ≡ Ok (tree_of v)) (λ e. Refuses e (operation_of operator (whole left) (whole right))) }
+    ensures { Makes result (operation_of operator (whole left) (whole right)) }
 {
     match operator {
         Operator::Minus => difference(left, right),
@@ -112,7 +173,7 @@ fn arithmetic(operator: Operator, left: i64, right: i64) -> Result<Value, CallFa
 
 fn on_wholes(operator: Operator, left: &Value, right: &Value) -> Result<Value, CallFault>
     requires { is_arithmetic operator ≡ true }
-    ensures { MatchResult result (λ v. operation_of operator (tree_of left.now) (tree_of right.now) ≡ Ok (tree_of v)) (λ e. Refuses e (operation_of operator (tree_of left.now) (tree_of right.now))) }
+    ensures { Makes result (operation_of operator (tree_of left.now) (tree_of right.now)) }
 {
     match left {
         Value::Whole(left) => match right {
@@ -123,25 +184,21 @@ fn on_wholes(operator: Operator, left: &Value, right: &Value) -> Result<Value, C
     }
 }
 
-/// What an operator makes of two values.
-pub fn operation(
-    alloc: Global,
-    operator: Operator,
-    left: &Value,
-    right: &Value,
-) -> Result<Value, CallFault>
-    ensures { MatchResult result (λ v. operation_of operator (tree_of left.now) (tree_of right.now) ≡ Ok (tree_of v)) (λ e. Refuses e (operation_of operator (tree_of left.now) (tree_of right.now))) }
+// What an operator but `+` makes of two values.
+fn apply(operator: Operator, left: &Value, right: &Value) -> Result<Value, CallFault>
+    requires { is_plus_of operator ≡ false }
+    ensures { Makes result (operation_of operator (tree_of left.now) (tree_of right.now)) }
 {
     match operator {
         Operator::Or => Err(CallFault::Task(TaskError::BadKind)),
         Operator::And => Err(CallFault::Task(TaskError::BadKind)),
         Operator::Equal => Ok(Value::Truth(*left == *right)),
         Operator::Unequal => Ok(Value::Truth(*left != *right)),
-        Operator::Less => tested(compared(left, right), true, false, false),
-        Operator::AtMost => tested(compared(left, right), true, true, false),
-        Operator::Greater => tested(compared(left, right), false, false, true),
-        Operator::AtLeast => tested(compared(left, right), false, true, true),
-        Operator::Plus => sum(alloc, left, right),
+        Operator::Less => test_order(compare(left, right), true, false, false),
+        Operator::AtMost => test_order(compare(left, right), true, true, false),
+        Operator::Greater => test_order(compare(left, right), false, false, true),
+        Operator::AtLeast => test_order(compare(left, right), false, true, true),
+        Operator::Plus => Err(CallFault::Task(TaskError::BadKind)),
         Operator::Minus => on_wholes(operator, left, right),
         Operator::Times => on_wholes(operator, left, right),
         Operator::Quotient => on_wholes(operator, left, right),
@@ -149,9 +206,36 @@ pub fn operation(
     }
 }
 
-/// What `not` or a minus makes of a value.
-pub fn prefixed(prefix: Prefix, value: &Value) -> Result<Value, CallFault>
-    ensures { MatchResult result (λ v. prefixed_of prefix (tree_of value.now) ≡ Ok (tree_of v)) (λ e. Refuses e (prefixed_of prefix (tree_of value.now))) }
+fn is_plus(operator: Operator) -> bool
+    ensures { result ≡ is_plus_of operator }
+{
+    match operator {
+        Operator::Plus => true,
+        _ => false,
+    }
+}
+
+/// What an operator makes of two values, which is counted.
+#[tactic(auto, using(crate::proofs::OperationLemmas::plus_sum))]
+pub fn operate(
+    alloc: Global,
+    operator: Operator,
+    left: &Value,
+    right: &Value,
+    steps: Steps,
+) -> Result<Counted, CallFault>
+    ensures { Runs result
+        (operated steps (operation_of operator (tree_of left.now) (tree_of right.now))) }
+{
+    if is_plus(operator) {
+        return add(alloc, left, right, steps);
+    }
+    count_value(apply(operator, left, right)?, steps)
+}
+
+// What `not` or a minus makes of a value.
+fn apply_prefix(prefix: Prefix, value: &Value) -> Result<Value, CallFault>
+    ensures { Makes result (prefixed_of prefix (tree_of value.now)) }
 {
     match prefix {
         Prefix::Not => match value {
@@ -163,6 +247,13 @@ pub fn prefixed(prefix: Prefix, value: &Value) -> Result<Value, CallFault>
             _ => Err(CallFault::Task(TaskError::BadKind)),
         },
     }
+}
+
+/// What `not` or a minus makes of a value, which is counted.
+pub fn operate_prefix(prefix: Prefix, value: &Value, steps: Steps) -> Result<Counted, CallFault>
+    ensures { Runs result (operated steps (prefixed_of prefix (tree_of value.now))) }
+{
+    count_value(apply_prefix(prefix, value)?, steps)
 }
 
 // A place in a list of this length, from 0, or from the end where it is negative.
@@ -182,19 +273,19 @@ fn place(length: usize, at: i64) -> Option<usize>
     }
 }
 
-fn item(alloc: Global, items: &[Value], at: i64) -> Result<Value, CallFault>
-    ensures { MatchResult result (λ v. at_place (item_at (items_of (trees_of items.now))) (place_of (items_length (items_of (trees_of items.now))) at) ≡ Ok (tree_of v))
-        (λ e. Refuses e (at_place (item_at (items_of (trees_of items.now))) (place_of (items_length (items_of (trees_of items.now))) at))) }
+fn item(alloc: Global, items: &[Value], at: i64, steps: Steps) -> Result<Counted, CallFault>
+    ensures { Runs result (operated steps
+        (at_place (item_at (items_of (trees_of items.now)))
+        (place_of (items_length (items_of (trees_of items.now))) at))) }
 {
     match place(items.len(), at) {
-        Some(place) => Ok(items[place].copy(alloc)?),
+        Some(place) => count_copy(alloc, &items[place], steps),
         None => Err(CallFault::Task(TaskError::BadIndex)),
     }
 }
 
 fn number(numbers: &[i64], at: i64) -> Result<Value, CallFault>
-    ensures { MatchResult result (λ v. at_place (number_at numbers.now) (place_of (length numbers.now) at) ≡ Ok (tree_of v))
-        (λ e. Refuses e (at_place (number_at numbers.now) (place_of (length numbers.now) at))) }
+    ensures { Makes result (at_place (number_at numbers.now) (place_of (length numbers.now) at)) }
 {
     match place(numbers.len(), at) {
         Some(place) => Ok(Value::Whole(numbers[place])),
@@ -203,7 +294,8 @@ fn number(numbers: &[i64], at: i64) -> Result<Value, CallFault>
 }
 
 fn member<'a>(members: &'a [(Text, Value)], name: &Text) -> Option<&'a Value>
-    ensures { MatchOption result (member_of name.now (members_of (entries_of members.now)) ≡ Err BadIndex)
+    ensures { MatchOption result
+        (member_of name.now (members_of (entries_of members.now)) ≡ Err BadIndex)
         (λ v. member_of name.now (members_of (entries_of members.now)) ≡ Ok (tree_of v.now)) }
 {
     for (key, value) in members {
@@ -214,30 +306,37 @@ fn member<'a>(members: &'a [(Text, Value)], name: &Text) -> Option<&'a Value>
     None
 }
 
-fn member_copy(alloc: Global, members: &[(Text, Value)], name: &Text) -> Result<Value, CallFault>
-    ensures { MatchResult result (λ v. member_of name.now (members_of (entries_of members.now)) ≡ Ok (tree_of v)) (λ e. Refuses e (member_of name.now (members_of (entries_of members.now)))) }
+fn named_member(
+    alloc: Global,
+    members: &[(Text, Value)],
+    name: &Text,
+    steps: Steps,
+) -> Result<Counted, CallFault>
+    ensures { Runs result
+        (operated steps (member_of name.now (members_of (entries_of members.now)))) }
 {
     match member(members, name) {
-        Some(value) => Ok(value.copy(alloc)?),
+        Some(value) => count_copy(alloc, value, steps),
         None => Err(CallFault::Task(TaskError::BadIndex)),
     }
 }
 
-/// The element of a list, an array or a table at a place or a key.
-pub fn element(alloc: Global, whole: &Value, at: &Value) -> Result<Value, CallFault>
-    ensures { MatchResult result (λ v. element_of (tree_of whole.now) (tree_of at.now) ≡ Ok (tree_of v)) (λ e. Refuses e (element_of (tree_of whole.now) (tree_of at.now))) }
+/// The element of a list, an array or a table at a place or a key, which is counted before it is
+/// copied.
+pub fn element(alloc: Global, whole: &Value, at: &Value, steps: Steps) -> Result<Counted, CallFault>
+    ensures { Runs result (operated steps (element_of (tree_of whole.now) (tree_of at.now))) }
 {
     match whole {
         Value::List(list) => match at {
-            Value::Whole(at) => item(alloc, list.as_slice(), *at),
+            Value::Whole(at) => item(alloc, list.as_slice(), *at, steps),
             _ => Err(CallFault::Task(TaskError::BadKind)),
         },
         Value::Numbers(numbers) => match at {
-            Value::Whole(at) => number(numbers.as_slice(), *at),
+            Value::Whole(at) => count_value(number(numbers.as_slice(), *at)?, steps),
             _ => Err(CallFault::Task(TaskError::BadKind)),
         },
         Value::Table(table) => match at {
-            Value::Text(name) => member_copy(alloc, table.members(), name),
+            Value::Text(name) => named_member(alloc, table.members(), name, steps),
             _ => Err(CallFault::Task(TaskError::BadKind)),
         },
         _ => Err(CallFault::Task(TaskError::BadKind)),

@@ -1,12 +1,19 @@
-ghost use Rattle.std.specs.Prelude.{◌≡◌, min};
+// What values weigh in the count of steps, and how deep they nest.
+ghost use Rattle.std.specs.Prelude.{◌≡◌, ◌+◌, min, nat_le};
 ghost use Rattle.jl_value.specs.Tree.{items_of, members_of};
 ghost use Rattle.jl_value.specs.Form.{tree_of, trees_of, entries_of};
 ghost use Rattle.jl_value.specs.Tree.{nesting, items_nesting, members_nesting};
 ghost use Rattle.jl_builtins.specs.Steps.{weight as weight_of, items_weight as items_weight_of, members_weight as members_weight_of};
-ghost use Rattle.std.specs.Prelude.{nat_le};
 
 use jl_text::Text;
 use jl_value::Value;
+
+/// What a text or an array of this length counts, up to 2^64 - 1.
+pub(crate) fn length_weight(length: usize) -> u64
+    ensures { result ≡ min (1 + length) 18446744073709551615 }
+{
+    (length as u64).saturating_add(1)
+}
 
 /// What a value counts, up to 2^64 - 1.
 #[cycle(weight)]
@@ -17,15 +24,16 @@ pub(crate) fn weight(value: &Value) -> u64
         Value::Null => 1,
         Value::Truth(_) => 1,
         Value::Whole(_) => 1,
-        Value::Text(text) => (text.as_str().len() as u64).saturating_add(1),
+        Value::Text(text) => length_weight(text.as_str().len()),
         Value::List(list) => items_weight(list.as_slice()).saturating_add(1),
         Value::Table(table) => members_weight(table.members()).saturating_add(1),
-        Value::Numbers(numbers) => (numbers.as_slice().len() as u64).saturating_add(1),
+        Value::Numbers(numbers) => length_weight(numbers.as_slice().len()),
     }
 }
 
+// What the members of a list count, up to 2^64 - 1.
 #[cycle(weight)]
-fn items_weight(items: &[Value]) -> u64
+pub(crate) fn items_weight(items: &[Value]) -> u64
     ensures { result ≡ min (items_weight_of (items_of (trees_of items.now))) 18446744073709551615 }
 {
     let mut total: u64 = 0;
@@ -35,9 +43,11 @@ fn items_weight(items: &[Value]) -> u64
     total
 }
 
+// What the keys and members of a table count, up to 2^64 - 1.
 #[cycle(weight)]
-fn members_weight(members: &[(Text, Value)]) -> u64
-    ensures { result ≡ min (members_weight_of (members_of (entries_of members.now))) 18446744073709551615 }
+pub(crate) fn members_weight(members: &[(Text, Value)]) -> u64
+    ensures { result
+        ≡ min (members_weight_of (members_of (entries_of members.now))) 18446744073709551615 }
 {
     let mut total: u64 = 0;
     for (key, member) in members {

@@ -1,3 +1,4 @@
+// Whether the left side of an operator decides.
 ghost use Rattle.std.specs.Prelude.{◌≡◌};
 ghost use Rattle.jl_value.specs.Form.{tree_of};
 ghost use Rattle.jl_builtins.specs.Operations.{settle as settle_of};
