@@ -1,3 +1,4 @@
+pub mod DefinesLemmas
 pub mod NameLemmas
 pub mod ScopeLemmas
 pub mod ReaderLemmas

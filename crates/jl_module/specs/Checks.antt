@@ -13,6 +13,7 @@ abbrev pub line_with : Option (Bor (List ℕ)) → Line
 line_with None = remark
 line_with (Some f) = defines f.now
 
+-- the fault of a line
 abbrev pub IsFaulty : LineFault → Line → Type 0
 IsFaulty (Faulty k) l = l ≡ faulty k
 IsFaulty Memory l = ⊤

@@ -31,10 +31,12 @@ abbrev mutual
   are_known ns (filtered e x a c) = are_known ns a && (are_known (x ∷ ns) c && are_known (x ∷ ns) e)
   are_known ns (table es) = entries_known ns es
 
+  -- whether each name of the members of a list is known
   pub members_known : List (List ℕ) → Members → Bool
   members_known ns no_members = true
   members_known ns (member e ms) = are_known ns e && members_known ns ms
 
+  -- whether each name of the members of a table is known
   pub entries_known : List (List ℕ) → Entries → Bool
   entries_known ns no_entries = true
   entries_known ns (entry k e es) = are_known ns e && entries_known ns es
@@ -61,14 +63,17 @@ abbrev pub parameters_in : List (List ℕ) → Option (List (List ℕ) × List (
 parameters_in [] = None
 parameters_in (w ∷ ws) = if is_mark 41 w then Some ([], ws) else (if is_identifier w then more_parameters (w ∷ []) ws else None)
 
+-- the heading that a colon ends
 abbrev pub body_behind : List ℕ → List (List ℕ) → List (List ℕ) → Option Heading
 body_behind n ps [] = None
 body_behind n ps (s ∷ ws) = if is_mark 58 s then Some (record { name = n; parameters = ps; body = ws }) else None
 
+-- the heading of a name and parameters
 abbrev pub with_parameters : List ℕ → Option (List (List ℕ) × List (List ℕ)) → Option Heading
 with_parameters n None = None
 with_parameters n (Some r) = body_behind n r.0 r.1
 
+-- the heading at the front of signs: `def`, a name, an opening bracket, parameters and a colon
 abbrev pub heading_in : List (List ℕ) → Option Heading
 heading_in [] = None
 heading_in (d ∷ []) = None
@@ -79,6 +84,7 @@ heading_in (d ∷ n ∷ o ∷ ws) = if bytes_eq d def_word && (is_identifier n &
 abbrev pub heading_of : List ℕ → Option Heading
 heading_of line = if begins_word line then heading_in (signs line) else None
 
+-- what a line defines
 pub record Definition : Type 0 where
   pub name : List ℕ
   pub parameters : List (List ℕ)
@@ -93,11 +99,13 @@ pub data Reading : Type 0 where
 abbrev pub judged : Heading → Expression → Reading
 judged h e = if nat_lt 128 (height e) then bad TooDeep else (if has_repeat [] h.parameters || not (are_known h.parameters e) then bad BadName else good (record { name = h.name; parameters = h.parameters; body = e }))
 
+-- a heading and what was read of its expression
 abbrev pub with_body : Heading → Read → Reading
 with_body h broken = bad BadLine
 with_body h nested_deep = bad TooDeep
 with_body h (read e) = judged h e
 
+-- a heading, where there is one, and its expression
 abbrev pub with_heading : Option Heading → Reading
 with_heading None = bad BadLine
 with_heading (Some h) = with_body h (read_signs h.body)

@@ -17,6 +17,7 @@ abbrev pub IsMissing : {A : Type 0} → LineFault → Option A → Type 0
 IsMissing (Faulty k) o = (k ≡ BadLine) × (o ≡ None)
 IsMissing Memory o = ⊤
 
+-- the fault of a line
 abbrev pub IsFault : LineFault → Reading → Type 0
 IsFault (Faulty k) r = r ≡ bad k
 IsFault Memory r = ⊤
@@ -35,6 +36,7 @@ IsNameless ws = heading_in ws ≡ None
 abbrev pub IsNamed : List ℕ → List (List ℕ) → List (List ℕ) → Type 0
 IsNamed n ws rest = heading_in ws ≡ with_parameters n (parameters_in rest)
 
+-- what was read of a heading
 abbrev pub heading_read : Head → Heading
 heading_read h = record { name = h.name.now; parameters = h.parameters; body = signs h.body.now }
 
@@ -42,6 +44,7 @@ heading_read h = record { name = h.name.now; parameters = h.parameters; body = s
 abbrev pub definition_read : Read → Definition
 definition_read d = record { name = d.name.now; parameters = d.parameters; body = d.body }
 
+-- the definition that a line is
 abbrev pub IsDefinition : Read → Reading → Type 0
 IsDefinition d r = r ≡ good (definition_read d)
 

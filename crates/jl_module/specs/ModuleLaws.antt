@@ -1,4 +1,5 @@
 -- The laws of a module: codes of names alone, lines from 1, no code longer than its module, and no module that is no text.
+-- Machinery: nothing here need be believed.
 use Rattle.std.specs.Prelude.{◌≡◌, ◌≤◌, ◌<◌, ℕ, zero, suc, ◌+◌, Bool, true, false, ◌&&◌, nat_eq, nat_lt, if◌then◌else◌, List, [], ◌∷◌, ◌++◌, length, Option, Some, None, option_map, IsTrue, refl}
 use Rattle.std.proofs.Common.{arith, sym, ap, subst, ◌∙◌, true≢false, get_or}
 use Rattle.std.specs.Option.{option_map_or}
@@ -7,7 +8,7 @@ use Rattle.std.specs.Str.{is_utf8, IsUtf8, bytes_eq}
 use Rattle.std.proofs.lemmas.Str.{IsUtf8-append, IsUtf8-nil, IsUtf8-from_is_utf8, IsUtf8-from_ascii}
 use Rattle.jl_text.specs.Texts.{is_name}
 use Rattle.jl_value.specs.declared.library.ModuleFault.{ModuleFault}
-use Rattle.jl_value.specs.declared.library.ModuleFaultKind.TheVariants.{BadLine}
+use Rattle.jl_value.specs.declared.library.ModuleFaultKind.{ModuleFaultKind}
 use Rattle.jl_lexer.specs.Words.{is_identifier}
 use Rattle.jl_module.specs.Modules.{lines, trimmed, before_end, is_trailing, Line, remark, faulty, defines, read_line, after_line, first_fault, fault_of, begins_definition, Found, find_from, find, code_in, line_in}
 
@@ -112,9 +113,9 @@ abbrev AreTexts : List (List ℕ) → Type 0
 AreTexts [] = Unit {0}
 AreTexts (l ∷ ls) = IsUtf8 l × AreTexts ls
 
-text_by : (b : Bool) (k : Line) (n : ℕ) (names : List (List ℕ)) (rest : List (List ℕ) → Option ModuleFault) → after_line n names (if b then k else faulty BadLine) rest ≡ None → b ≡ true
-text_by true k n names rest e = refl
-text_by false k n names rest e = absurd (cc)
+text_by : (b : Bool) (k : Line) (f : ModuleFaultKind) (n : ℕ) (names : List (List ℕ)) (rest : List (List ℕ) → Option ModuleFault) → after_line n names (if b then k else faulty f) rest ≡ None → b ≡ true
+text_by true k f n names rest e = refl
+text_by false k f n names rest e = absurd (cc)
 
 twice_by : (b : Bool) (o p : Option ModuleFault) (f : ModuleFault) → o ≡ Some f → (if b then o else p) ≡ None → p ≡ None
 twice_by true o p f same e = absurd (cc)
@@ -129,7 +130,7 @@ texts_by : (n : ℕ) (names ls : List (List ℕ)) → first_fault n names ls ≡
 texts_by n names [] e = tt
 texts_by n names (l ∷ ls) e =
     let more = rest_by (read_line l) n names (λ more. first_fault (n + 1) more ls) e in
-    (IsUtf8-from_is_utf8 l (text_by (is_utf8 l) _ n names (λ more. first_fault (n + 1) more ls) e), texts_by (n + 1) more.0 ls more.1)
+    (IsUtf8-from_is_utf8 l (text_by (is_utf8 l) _ _ n names (λ more. first_fault (n + 1) more ls) e), texts_by (n + 1) more.0 ls more.1)
 
 -- lines put together again
 abbrev together : List (List ℕ) → List ℕ

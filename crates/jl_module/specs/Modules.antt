@@ -1,14 +1,14 @@
 -- The lines of a module, its faults and its functions.
-use Rattle.std.specs.Prelude.{ℕ, ◌+◌, Bool, true, false, ◌&&◌, ◌||◌, nat_eq, nat_lt, if◌then◌else◌, List, [], ◌∷◌, ◌++◌, length, Option, Some, None, option_map}
+use Rattle.std.specs.Prelude.{◌≡◌, ℕ, ◌+◌, Bool, true, false, ◌&&◌, ◌||◌, nat_eq, nat_lt, if◌then◌else◌, List, [], ◌∷◌, ◌++◌, length, Option, Some, None, option_map}
 use Rattle.std.specs.Option.{option_map_or}
 use Rattle.std.specs.List.{list_any, slice_split}
 use Rattle.std.specs.Str.{bytes_eq, is_utf8}
 use Rattle.jl_value.specs.declared.library.ModuleFault.{ModuleFault}
 use Rattle.jl_value.specs.declared.library.ModuleFaultKind.{ModuleFaultKind}
-use Rattle.jl_value.specs.declared.library.ModuleFaultKind.TheVariants.{BadLine, Twice, TooLarge}
+use Rattle.jl_value.specs.declared.library.ModuleFaultKind.TheVariants.{BadLine, Twice, TooDeep, TooLarge}
 use Rattle.jl_lexer.specs.Signs.{is_gap, signs, begins_word}
 use Rattle.jl_lexer.specs.Words.{def_word, is_identifier}
-use Rattle.jl_module.specs.Headings.{Reading, bad, good, definition_in}
+use Rattle.jl_module.specs.Headings.{Definition, Reading, bad, good, definition_in}
 
 -- the lines, between newlines
 abbrev pub lines : List ℕ → List (List ℕ)
@@ -18,6 +18,7 @@ lines m = slice_split (λ b. nat_eq b 10) m
 abbrev pub is_trailing : ℕ → Bool
 is_trailing b = is_gap b || nat_eq b 13
 
+-- a byte before what a line ends with
 abbrev pub before_end : ℕ → List ℕ → List ℕ
 before_end b [] = if is_trailing b then [] else b ∷ []
 before_end b (c ∷ cs) = b ∷ c ∷ cs
@@ -38,13 +39,26 @@ pub data Line : Type 0 where
   faulty : ModuleFaultKind → Line
   defines : List ℕ → Line
 
+-- the line that a reading is
 abbrev pub line_of : Reading → Line
 line_of (bad k) = faulty k
 line_of (good d) = defines d.name
 
-abbrev pub read_line : List ℕ → Line
-read_line l = if is_utf8 l then (if is_remark (trimmed l) then remark else line_of (definition_in (trimmed l))) else faulty BadLine
+-- a fault of the signs before a byte that is not UTF-8: brackets that nest too deep are told, and else the line is bad
+abbrev pub broken_kind : ModuleFaultKind → ModuleFaultKind
+broken_kind TooDeep = TooDeep
+broken_kind _ = BadLine
 
+-- what is wrong with a line that is not UTF-8
+abbrev pub broken_line : Reading → ModuleFaultKind
+broken_line (bad k) = broken_kind k
+broken_line (good d) = BadLine
+
+-- what a line is, without what is dropped at its end
+abbrev pub read_line : List ℕ → Line
+read_line l = if is_utf8 l then (if is_remark (trimmed l) then remark else line_of (definition_in (trimmed l))) else faulty (broken_line (definition_in (trimmed l)))
+
+-- the first fault of a line and those behind it
 abbrev pub after_line : ℕ → List (List ℕ) → Line → (List (List ℕ) → Option ModuleFault) → Option ModuleFault
 after_line n names remark rest = rest names
 after_line n names (faulty k) rest = Some (record { line = n; kind = k })
@@ -59,6 +73,7 @@ first_fault n names (l ∷ ls) = after_line n names (read_line l) (λ more. firs
 abbrev pub fault_of : List ℕ → Option ModuleFault
 fault_of m = if nat_lt 1048576 (length m) then Some (record { line = 1; kind = TooLarge }) else first_fault 1 [] (lines m)
 
+-- whether signs begin with `def` and a name
 abbrev pub defines_in : List ℕ → List (List ℕ) → Bool
 defines_in name [] = false
 defines_in name (d ∷ []) = false
@@ -78,6 +93,7 @@ abbrev pub find_from : ℕ → List ℕ → List (List ℕ) → Option Found
 find_from n name [] = None
 find_from n name (l ∷ ls) = if begins_definition name (trimmed l) then Some (record { code = trimmed l; line = n }) else find_from (n + 1) name ls
 
+-- the first definition of a name
 abbrev pub find : List ℕ → List ℕ → Option Found
 find m name = if is_identifier name then find_from 1 name (lines m) else None
 
@@ -88,3 +104,9 @@ code_in m name = option_map (λ f. f.code) (find m name)
 -- the number of that line, from 1
 abbrev pub line_in : List ℕ → List ℕ → ℕ
 line_in m name = option_map_or (λ f. f.line) (find m name) 0
+
+-- a code is a definition of a name
+pub record Defines (code name : List ℕ) : Type 0 where
+  pub definition : Definition
+  pub read : definition_in code ≡ good definition
+  pub named : definition.name ≡ name

@@ -1,3 +1,4 @@
+// Why a line is no definition.
 use jl_value::ModuleFaultKind;
 use std::alloc::{AllocError, AllocFailed};
 use thiserror::Error;

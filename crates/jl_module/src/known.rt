@@ -39,7 +39,8 @@ fn with_variable<'a>(
     variable: &Name<'a>,
     variables: &[&'a [u8]],
 ) -> Result<Vec<&'a [u8]>, AllocError>
-    ensures { IfOk result (λ v. map (λ x. x.now) v.items ≡ variable.now ∷ map (λ x. x.now) variables.now) }
+    ensures { IfOk result
+        (λ v. map (λ x. x.now) v.items ≡ variable.now ∷ map (λ x. x.now) variables.now) }
 {
     let mut inner = Vec::new(alloc);
     inner.push(variable.bytes())?;
@@ -55,7 +56,9 @@ fn both_known<'a>(
     first: &Tree<'a>,
     last: &Tree<'a>,
 ) -> Result<bool, AllocError>
-    ensures { IfOk result (λ b. b ≡ (are_known_of (names_among variables.now names.now) first.now && are_known_of (names_among variables.now names.now) last.now)) }
+    ensures { IfOk result
+        (λ b. b ≡ (are_known_of (names_among variables.now names.now) first.now
+        && are_known_of (names_among variables.now names.now) last.now)) }
 {
     if !are_known(alloc, names, variables, first)? {
         return Ok(false);
@@ -72,7 +75,9 @@ fn choice_known<'a>(
     condition: &Tree<'a>,
     last: &Tree<'a>,
 ) -> Result<bool, AllocError>
-    ensures { IfOk result (λ b. b ≡ are_known_of (names_among variables.now names.now) (choice first.now condition.now last.now)) }
+    ensures { IfOk result
+        (λ b. b ≡ are_known_of (names_among variables.now names.now)
+        (choice first.now condition.now last.now)) }
 {
     if !are_known(alloc, names, variables, first)? {
         return Ok(false);
@@ -89,7 +94,9 @@ fn each_known<'a>(
     variable: &Name<'a>,
     source: &Tree<'a>,
 ) -> Result<bool, AllocError>
-    ensures { IfOk result (λ b. b ≡ are_known_of (names_among variables.now names.now) (each member.now variable.now source.now)) }
+    ensures { IfOk result
+        (λ b. b ≡ are_known_of (names_among variables.now names.now)
+        (each member.now variable.now source.now)) }
 {
     if !are_known(alloc, names, variables, source)? {
         return Ok(false);
@@ -108,7 +115,9 @@ fn filtered_known<'a>(
     source: &Tree<'a>,
     condition: &Tree<'a>,
 ) -> Result<bool, AllocError>
-    ensures { IfOk result (λ b. b ≡ are_known_of (names_among variables.now names.now) (filtered member.now variable.now source.now condition.now)) }
+    ensures { IfOk result
+        (λ b. b ≡ are_known_of (names_among variables.now names.now)
+        (filtered member.now variable.now source.now condition.now)) }
 {
     if !are_known(alloc, names, variables, source)? {
         return Ok(false);
@@ -124,7 +133,8 @@ fn members_known<'a>(
     variables: &[&'a [u8]],
     members: &[Tree<'a>],
 ) -> Result<bool, AllocError>
-    ensures { IfOk result (λ b. b ≡ members_known_of (names_among variables.now names.now) (members_of members.now)) }
+    ensures { IfOk result
+        (λ b. b ≡ members_known_of (names_among variables.now names.now) (members_of members.now)) }
 {
     for member in members {
         if !are_known(alloc, names, variables, member)? {
@@ -141,7 +151,8 @@ fn entries_known<'a>(
     variables: &[&'a [u8]],
     entries: &[(Key<'a>, Tree<'a>)],
 ) -> Result<bool, AllocError>
-    ensures { IfOk result (λ b. b ≡ entries_known_of (names_among variables.now names.now) (entries_of entries.now)) }
+    ensures { IfOk result
+        (λ b. b ≡ entries_known_of (names_among variables.now names.now) (entries_of entries.now)) }
 {
     for (_, member) in entries {
         if !are_known(alloc, names, variables, member)? {

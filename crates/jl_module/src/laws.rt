@@ -1,10 +1,20 @@
-ghost use Rattle.std.specs.Prelude.{◌≡◌};
+// Laws of the lines of a module.
+ghost use Rattle.std.specs.Prelude.{◌≡◌, ℕ, List, Some, None};
 ghost use Rattle.jl_syntax.specs.Trees.{Expression};
 ghost use Rattle.jl_module.specs.Headings.{Heading, with_body, judged};
+ghost use Rattle.jl_module.specs.Modules.{fault_of, code_in, Defines};
 ghost use Rattle.jl_syntax.specs.Grammar.{Writes};
 ghost use Rattle.jl_syntax.specs.Machine.{read_signs};
 
 /// A line of the grammar is judged by its tree.
 pub fn a_line_is_judged_by_its_tree()
-    ensures { (h : Heading) (e : Expression) → Writes h.body e → with_body h (read_signs h.body) ≡ judged h e }
+    ensures { (h : Heading) (e : Expression) → Writes h.body e
+        → with_body h (read_signs h.body) ≡ judged h e }
+{}
+
+/// In a module without a fault the code of a name is a definition of that name, whatever stands on
+/// the other lines: what is read of the code alone is what the module defines.
+pub fn a_code_defines_its_name()
+    ensures { (module_bytes name code : List ℕ) → fault_of module_bytes ≡ None
+        → code_in module_bytes name ≡ Some code → Defines code name }
 {}

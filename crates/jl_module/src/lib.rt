@@ -1,4 +1,5 @@
-//! The definition language's lines and modules: definitions, the names that they may use, and faults.
+//! The definition language's lines and modules: definitions, the names that they may use, and
+//! faults.
 #![tactic(auto)]
 
 mod fault;
@@ -9,10 +10,7 @@ mod names;
 mod reader;
 
 pub use fault::LineFault;
-pub use laws::a_line_is_judged_by_its_tree;
+pub use laws::{a_code_defines_its_name, a_line_is_judged_by_its_tree};
 pub use module::{find, module_fault};
 pub use names::Names;
 pub use reader::{Definition, read_definition};
-
-#[cfg(test)]
-mod tests;

@@ -1,7 +1,9 @@
+// The lines of a module: the first fault of them, and the definition of a name.
 ghost use Rattle.std.specs.Prelude.{◌≡◌, ◌≤◌, ◌<◌, ◌∷◌, [], ℕ, length, Some, None, IfOk, MatchOption, MatchResult, true, false};
 ghost use Rattle.std.specs.Str.{is_utf8};
-ghost use Rattle.jl_module.specs.Modules.{lines, is_trailing as is_trailing_of, trimmed as trimmed_of, is_remark as is_remark_of, read_line as read_line_of, first_fault, fault_of, defines_in as defines_in_of, begins_definition, find as find_of, find_from};
+ghost use Rattle.jl_module.specs.Modules.{lines, is_trailing as is_trailing_of, trimmed as trimmed_of, is_remark as is_remark_of, read_line as read_line_of, faulty, broken_kind as broken_kind_of, broken_line as broken_line_of, first_fault, fault_of, defines_in as defines_in_of, begins_definition, find as find_of, find_from};
 ghost use Rattle.jl_lexer.specs.Signs.{signs};
+ghost use Rattle.jl_module.specs.Headings.{definition_in};
 ghost use Rattle.jl_module.specs.Checks.{line_with, IsFaulty, IsChecked};
 
 use crate::fault::LineFault;
@@ -38,7 +40,7 @@ fn is_trailing(b: u8) -> bool
     is_gap(b) || b == b'\r'
 }
 
-fn trimmed(line: &[u8]) -> &[u8]
+fn trim_end(line: &[u8]) -> &[u8]
     ensures { result.now ≡ trimmed_of line.now }
 {
     let mut end = line.len();
@@ -69,14 +71,40 @@ fn is_text(bytes: &[u8]) -> bool
     }
 }
 
+fn broken_kind(kind: ModuleFaultKind) -> ModuleFaultKind
+    ensures { result ≡ broken_kind_of kind }
+{
+    match kind {
+        ModuleFaultKind::TooDeep => ModuleFaultKind::TooDeep,
+        _ => ModuleFaultKind::BadLine,
+    }
+}
+
+// What is wrong with a line that is not UTF-8. Its signs are read up to the fault, since brackets
+// that nest too deep before it are told first.
+fn broken_line(alloc: Global, code: &[u8]) -> LineFault
+    ensures { IsFaulty result (faulty (broken_line_of (definition_in code.now))) }
+{
+    match read_definition(alloc, code) {
+        Err(LineFault::Faulty(kind)) => LineFault::Faulty(broken_kind(kind)),
+        Err(LineFault::Memory) => LineFault::Memory,
+        Ok(definition) => {
+            drop(definition);
+            LineFault::Faulty(ModuleFaultKind::BadLine)
+        }
+    }
+}
+
 // The name that a line defines, where it is no blank line or comment.
 fn read_line<'a>(alloc: Global, line: &'a [u8]) -> Result<Option<&'a [u8]>, LineFault>
-    ensures { MatchResult result (λ o. read_line_of line.now ≡ line_with o) (λ e. IsFaulty e (read_line_of line.now)) }
+    ensures { MatchResult result
+        (λ o. read_line_of line.now ≡ line_with o)
+        (λ e. IsFaulty e (read_line_of line.now)) }
 {
+    let code = trim_end(line);
     if !is_text(line) {
-        return Err(LineFault::Faulty(ModuleFaultKind::BadLine));
+        return Err(broken_line(alloc, code));
     }
-    let code = trimmed(line);
     if is_remark(code) {
         return Ok(None);
     }
@@ -179,13 +207,14 @@ fn definition_text<'a>(code: &'a [u8], name: &[u8]) -> Option<&'a str>
 
 fn find_line<'a>(bytes: &'a [u8], name: &[u8]) -> Option<(&'a str, u64)>
     ensures { MatchOption result (find_from 1 name.now (lines bytes.now) ≡ None)
-        (λ r. find_from 1 name.now (lines bytes.now) ≡ Some (record { code = r.0.now; line = r.1 })) }
+        (λ r. find_from 1 name.now (lines bytes.now)
+        ≡ Some (record { code = r.0.now; line = r.1 })) }
 {
     let mut left = bytes;
     let mut number: u64 = 1;
     'lines: loop {
         let (line, rest) = split_line(left);
-        if let Some(text) = definition_text(trimmed(line), name) {
+        if let Some(text) = definition_text(trim_end(line), name) {
             return Some((text, number));
         }
         match rest {

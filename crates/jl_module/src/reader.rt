@@ -1,3 +1,4 @@
+// A definition: its head and the tree of its expression.
 ghost use Rattle.std.specs.Prelude.{◌≡◌, ◌∷◌, [], Some, None, MatchResult, MatchOption};
 ghost use Rattle.jl_lexer.specs.Signs.{signs};
 ghost use Rattle.jl_module.specs.Headings.{more_parameters as more_parameters_of, parameters_in, heading_of, definition_in};
@@ -100,7 +101,9 @@ fn read_parameters<'a>(alloc: Global, bytes: &'a [u8]) -> Result<(Names<'a>, &'a
 
 // The name and the text behind the bracket that follows it.
 fn read_name(bytes: &[u8]) -> Option<(&[u8], &[u8])>
-    ensures { MatchOption result (IsNameless (signs bytes.now)) (λ r. IsNamed r.0.now (signs bytes.now) (signs r.1.now)) }
+    ensures { MatchOption result
+        (IsNameless (signs bytes.now))
+        (λ r. IsNamed r.0.now (signs bytes.now) (signs r.1.now)) }
 {
     let (word, rest) = next_sign(bytes)?;
     if !is_def(word) {
@@ -119,7 +122,9 @@ fn read_name(bytes: &[u8]) -> Option<(&[u8], &[u8])>
 }
 
 fn read_head<'a>(alloc: Global, line: &'a [u8]) -> Result<Head<'a>, LineFault>
-    ensures { MatchResult result (λ h. heading_of line.now ≡ Some (heading_read h)) (λ e. IsMissing e (heading_of line.now)) }
+    ensures { MatchResult result
+        (λ h. heading_of line.now ≡ Some (heading_read h))
+        (λ e. IsMissing e (heading_of line.now)) }
 {
     if !begins_word(line) {
         return Err(LineFault::Faulty(ModuleFaultKind::BadLine));
@@ -144,8 +149,10 @@ fn read_head<'a>(alloc: Global, line: &'a [u8]) -> Result<Head<'a>, LineFault>
     }
 }
 
-fn body<'a>(alloc: Global, bytes: &'a [u8]) -> Result<Tree<'a>, LineFault>
-    ensures { MatchResult result (λ t. IsBody t (signs bytes.now)) (λ e. IsNoBody e (signs bytes.now)) }
+fn read_body<'a>(alloc: Global, bytes: &'a [u8]) -> Result<Tree<'a>, LineFault>
+    ensures { MatchResult result
+        (λ t. IsBody t (signs bytes.now))
+        (λ e. IsNoBody e (signs bytes.now)) }
 {
     match read_expression(alloc, bytes) {
         Ok(tree) => {
@@ -163,10 +170,12 @@ fn body<'a>(alloc: Global, bytes: &'a [u8]) -> Result<Tree<'a>, LineFault>
 
 /// The definition that a line is, or its first fault.
 pub fn read_definition<'a>(alloc: Global, line: &'a [u8]) -> Result<Definition<'a>, LineFault>
-    ensures { MatchResult result (λ d. IsDefinition d (definition_in line.now)) (λ e. IsFault e (definition_in line.now)) }
+    ensures { MatchResult result
+        (λ d. IsDefinition d (definition_in line.now))
+        (λ e. IsFault e (definition_in line.now)) }
 {
     let head = read_head(alloc, line)?;
-    let body = body(alloc, head.body)?;
+    let body = read_body(alloc, head.body)?;
     if has_repeat(alloc, head.parameters.as_slice())? {
         return Err(LineFault::Faulty(ModuleFaultKind::BadName));
     }

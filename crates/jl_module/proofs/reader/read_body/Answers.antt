@@ -2,7 +2,7 @@ use Rattle.std.proofs.Common.{◌≤◌, arith}
 use Rattle.jl_lexer.specs.Signs.{signs}
 use Rattle.jl_syntax.specs.Trees.{height}
 use Rattle.jl_module.proofs.BodyLemmas.{body_read, body_high, stop_broken, stop_deep}
-use Rattle.jl_module.proofs.reader.body.Goals as goal
+use Rattle.jl_module.proofs.reader.read_body.Goals as goal
 
 pub returns-then-height-gt128 : goal.returns-then-height-gt128
 returns-then-height-gt128 c = body_high (signs c.args.bytes.now) c.in-Ok.tree c.in-Ok.ensures (omega (arith, c.height.ensures.same, c.if-height-gt128.true))

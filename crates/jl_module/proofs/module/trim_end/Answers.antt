@@ -1,6 +1,6 @@
 use Rattle.std.proofs.Common.{◌-◌, sym, ◌∙◌, arith}
 use Rattle.jl_module.proofs.LineLemmas.{trimmed_less, trimmed_here}
-use Rattle.jl_module.proofs.module.trimmed.Goals as goal
+use Rattle.jl_module.proofs.module.trim_end.Goals as goal
 
 pub returns-then-not-is_trailing : goal.returns-then-not-is_trailing
 returns-then-not-is_trailing c =
