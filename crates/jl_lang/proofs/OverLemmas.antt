@@ -8,7 +8,7 @@ use Rattle.jl_value.specs.declared.value.Value.{Value}
 use Rattle.jl_builtins.specs.declared.fault.CallFault.{CallFault}
 use Rattle.jl_builtins.specs.declared.fault.CallFault.TheVariants.{Task, NoMemory}
 use Rattle.jl_builtins.specs.declared.counting.Counted.{Counted}
-use Rattle.jl_lang.specs.declared.evaluator.Taken.{Taken}
+use Rattle.jl_lang.specs.declared.evaluator.Members.{Members}
 use Rattle.jl_builtins.specs.Steps.{Ran}
 use Rattle.jl_builtins.specs.Lists.{taking, filtered_over}
 use Rattle.jl_builtins.specs.Outcomes.{IsRan, IsFailing}
@@ -21,11 +21,11 @@ next_member if_so of items i item vs n h is =
     at_drop_more (λ us. filtered_over if_so of (trees_of us) vs n) items i item h
     ∙ ap (λ (u : Value). taking (if_so (tree_of u)) (of (tree_of u)) vs n (λ ws l. filtered_over if_so of (trees_of (drop (i + 1) items)) ws l)) (sym is)
 
-pub filtered_more : (if_so of : Tree → ℕ → Ran) (items : List Value) (i : ℕ) (item : Value) (vs : List Tree) (n : ℕ) (t : Taken) (x : Ran) → i < length items → item ≡ get_or items i item
+pub filtered_more : (if_so of : Tree → ℕ → Ran) (items : List Value) (i : ℕ) (item : Value) (vs : List Tree) (n : ℕ) (t : Members) (x : Ran) → i < length items → item ≡ get_or items i item
     → filtered_over if_so of (trees_of (drop i items)) vs n ≡ x → IsTaken t (if_so (tree_of item)) (of (tree_of item)) vs n
-    → filtered_over if_so of (trees_of (drop (i + 1) items)) (trees_of t.values.items) t.count ≡ x
+    → filtered_over if_so of (trees_of (drop (i + 1) items)) (trees_of t.values.items) t.steps ≡ x
 filtered_more if_so of items i item vs n t x h is so taken =
-    sym (taken.0 (λ ws l. filtered_over if_so of (trees_of (drop (i + 1) items)) ws l)) ∙ sym (next_member if_so of items i item vs n h is) ∙ so
+    sym (taken (λ ws l. filtered_over if_so of (trees_of (drop (i + 1) items)) ws l)) ∙ sym (next_member if_so of items i item vs n h is) ∙ so
 
 left_by : (e : CallFault) (if_so of : Tree → ℕ → Ran) (items : List Value) (i : ℕ) (item : Value) (vs : List Tree) (n : ℕ) (x : Ran) → i < length items → item ≡ get_or items i item
     → filtered_over if_so of (trees_of (drop i items)) vs n ≡ x → IsLeft e (if_so (tree_of item)) (of (tree_of item)) vs n → IsFailing e x

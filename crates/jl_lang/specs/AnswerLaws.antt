@@ -1,4 +1,5 @@
 -- The law of the answers: a value is proper, nests 64 deep at most and has a text of at most 2 ^ 20 bytes.
+-- Machinery: nothing here need be believed.
 use Rattle.std.specs.Prelude.{◌≡◌, ◌≤◌, ◌<◌, ◌^◌, ℕ, Bool, true, false, ◌&&◌, not, nat_lt, nat_le, if◌then◌else◌, pos, List, [], ◌∷◌, ◌++◌, length, Option, Some, None, option_map, refl}
 use Rattle.std.proofs.Common.{arith, sym, true≢false}
 use Rattle.std.specs.Str.{bytes_eq, is_utf8, IsUtf8}
@@ -15,8 +16,8 @@ use Rattle.jl_lexer.specs.Signs.{is_digit}
 use Rattle.jl_lexer.specs.Words.{is_number, number_behind, has_leading_zero, true_word, false_word, none_word, if_text, quoted_in, text_in, named_constant, constant_of, key_in}
 use Rattle.jl_syntax.specs.Trees.{Expression, tall, leaf, bracketed, before, between, choice, index, call, span, list as listed, each, filtered, table as tabled, Members as Listing, no_members as none_listed, member as listing, Entries, no_entries, entry}
 use Rattle.jl_module.specs.Headings.{Reading, bad, good, definition_in}
-use Rattle.jl_builtins.specs.declared.settled.Settled.{Settled}
-use Rattle.jl_builtins.specs.declared.settled.Settled.TheVariants.{Known, Open, Wrong, Both}
+use Rattle.jl_builtins.specs.declared.left_side.Settled.{Settled}
+use Rattle.jl_builtins.specs.declared.left_side.Settled.TheVariants.{Known, Open, Wrong, Both}
 use Rattle.jl_builtins.specs.Steps.{Ran, done, failed}
 use Rattle.jl_builtins.specs.Operations.{operation, prefixed, element_of, settle}
 use Rattle.jl_builtins.specs.Calls.{range_of, call_value}

@@ -10,8 +10,8 @@ use Rattle.jl_lexer.specs.declared.operators.Operator.{Operator}
 use Rattle.jl_lexer.specs.Words.{constant_of, key_in}
 use Rattle.jl_syntax.specs.Trees.{Expression, tall, leaf, bracketed, before, between, choice, index, call, span, list as listed, each, filtered, table as tabled, Members, no_members, member, Entries, no_entries, entry}
 use Rattle.jl_module.specs.Headings.{Definition, Reading, bad, good, definition_in}
-use Rattle.jl_builtins.specs.declared.settled.Settled.{Settled}
-use Rattle.jl_builtins.specs.declared.settled.Settled.TheVariants.{Known, Open, Wrong, Both}
+use Rattle.jl_builtins.specs.declared.left_side.Settled.{Settled}
+use Rattle.jl_builtins.specs.declared.left_side.Settled.TheVariants.{Known, Open, Wrong, Both}
 use Rattle.jl_builtins.specs.Steps.{Ran, done, failed, then', counted, operated}
 use Rattle.jl_builtins.specs.Operations.{operation, prefixed, element_of, settle}
 use Rattle.jl_builtins.specs.Calls.{call_value, range_of}
@@ -22,6 +22,7 @@ abbrev pub argument : List ℕ → List (List ℕ × Tree) → Option Tree
 argument n [] = None
 argument n (p ∷ ps) = if bytes_eq n p.0 then Some p.1 else argument n ps
 
+-- the value that a name stands for, where it stands for one
 abbrev pub named : ℕ → Option Tree → Ran
 named n None = failed NoArgument
 named n (Some v) = counted n v
@@ -85,6 +86,7 @@ abbrev pub limited : Ran → Answer
 limited (failed e) = error e
 limited (done v n) = if nat_lt 64 (nesting v) then error TooDeep else (if nat_lt 1048576 (length (text_of v)) then error TooLong else value v)
 
+-- whether a name is in the arguments
 abbrev pub has_argument : List (List ℕ × Tree) → List ℕ → Bool
 has_argument ps w = list_any (λ p. bytes_eq w p.0) ps
 
@@ -96,9 +98,11 @@ has_arguments ws ps = list_all (has_argument ps) ws
 abbrev pub has_parameters : List (List ℕ) → List (List ℕ × Tree) → Bool
 has_parameters ws ps = list_all (λ p. list_any (bytes_eq p.0) ws) ps
 
+-- what a definition answers on arguments
 abbrev pub called : Definition → List (List ℕ × Tree) → Answer
 called d ps = if not (has_arguments d.parameters ps) then error NoArgument else (if not (has_parameters d.parameters ps) then error ExtraArgument else limited (value_of ps d.body 0))
 
+-- what a line answers on arguments
 abbrev pub answered : Reading → List (List ℕ × Tree) → Answer
 answered (bad k) ps = error BadKind
 answered (good d) ps = called d ps

@@ -1,5 +1,5 @@
 -- What the evaluation of an expression answers.
-use Rattle.std.specs.Prelude.{◌≡◌, ◌≤◌, ℕ, List, ⊤}
+use Rattle.std.specs.Prelude.{◌≡◌, ℕ, List, ⊤}
 use Rattle.jl_value.specs.Tree.{Tree}
 use Rattle.jl_value.specs.Form.{trees_of}
 use Rattle.jl_value.specs.Library.{Answer, error}
@@ -7,16 +7,18 @@ use Rattle.jl_builtins.specs.declared.fault.CallFault.{CallFault}
 use Rattle.jl_builtins.specs.declared.fault.CallFault.TheVariants.{Task, NoMemory}
 use Rattle.jl_builtins.specs.Steps.{Ran, failed}
 use Rattle.jl_builtins.specs.Lists.{taking}
-use Rattle.jl_lang.specs.declared.evaluator.Taken.{Taken}
+use Rattle.jl_lang.specs.declared.evaluator.Members.{Members}
 
+-- the error of a call
 abbrev pub IsError : CallFault → Answer → Type 0
 IsError (Task e) a = a ≡ error e
 IsError NoMemory a = ⊤
 
 -- the members of a list so far, behind one more that its condition may let through
-abbrev pub IsTaken : Taken → (ℕ → Ran) → (ℕ → Ran) → List Tree → ℕ → Type 0
-IsTaken t if_so of vs n = ((rest : List Tree → ℕ → Ran) → taking if_so of vs n rest ≡ rest (trees_of t.values.items) t.count) × (t.count ≤ 16777216)
+abbrev pub IsTaken : Members → (ℕ → Ran) → (ℕ → Ran) → List Tree → ℕ → Type 0
+IsTaken t if_so of vs n = (rest : List Tree → ℕ → Ran) → taking if_so of vs n rest ≡ rest (trees_of t.values.items) t.steps
 
+-- why there is no such member
 abbrev pub IsLeft : CallFault → (ℕ → Ran) → (ℕ → Ran) → List Tree → ℕ → Type 0
 IsLeft (Task e) if_so of vs n = (rest : List Tree → ℕ → Ran) → taking if_so of vs n rest ≡ failed e
 IsLeft NoMemory if_so of vs n = ⊤

@@ -1,3 +1,4 @@
+// The shipped library: what a module defines, and what its functions answer.
 ghost use Rattle.std.specs.Prelude.{◌≡◌, [], Some, MatchResult, IfOk, map, length};
 ghost use Rattle.jl_value.specs.Form.{tree_of, entries_of};
 ghost use Rattle.jl_value.specs.Canonical.{text_of};
@@ -9,7 +10,7 @@ ghost use Rattle.jl_lang.specs.Outcomes.{IsError};
 
 use crate::evaluator::evaluate;
 use crate::scope::Scope;
-use jl_builtins::{CallFault, Counted, nests_within};
+use jl_builtins::{CallFault, Counted, Steps, nests_within};
 use jl_module::{Definition, LineFault, Names, find, module_fault, read_definition};
 use jl_syntax::Tree;
 use jl_text::Text;
@@ -76,9 +77,10 @@ fn text_length(alloc: Global, value: &Value) -> Result<usize, AllocError>
     Ok(text.as_str().len())
 }
 
-fn limited(alloc: Global, ran: Counted) -> Result<Value, CallFault>
-    ensures { MatchResult result (λ v. limited_of (done (tree_of ran.value) ran.count) ≡ answered_value (tree_of v))
-        (λ e. IsError e (limited_of (done (tree_of ran.value) ran.count))) }
+fn keep_limits(alloc: Global, ran: Counted) -> Result<Value, CallFault>
+    ensures { MatchResult result
+        (λ v. limited_of (done (tree_of ran.value) ran.steps) ≡ answered_value (tree_of v))
+        (λ e. IsError e (limited_of (done (tree_of ran.value) ran.steps))) }
 {
     let value = ran.value;
     if !nests_within(&value, 64) {
@@ -90,16 +92,18 @@ fn limited(alloc: Global, ran: Counted) -> Result<Value, CallFault>
     Ok(value)
 }
 
-fn evaluated(alloc: Global, args: &Args, body: &Tree) -> Result<Value, CallFault>
-    ensures { MatchResult result (λ v. limited_of (value_of args.now body.now 0) ≡ answered_value (tree_of v))
+fn evaluate_body(alloc: Global, args: &Args, body: &Tree) -> Result<Value, CallFault>
+    ensures { MatchResult result
+        (λ v. limited_of (value_of args.now body.now 0) ≡ answered_value (tree_of v))
         (λ e. IsError e (limited_of (value_of args.now body.now 0))) }
 {
-    let ran = evaluate(alloc, &Scope::Arguments(args), body, 0)?;
-    limited(alloc, ran)
+    let ran = evaluate(alloc, &Scope::Arguments(args), body, Steps::none())?;
+    keep_limits(alloc, ran)
 }
 
-fn called(alloc: Global, definition: &Definition, args: &Args) -> Result<Value, CallFault>
-    ensures { MatchResult result (λ v. called_of (definition_read definition.now) args.now ≡ answered_value (tree_of v))
+fn call_definition(alloc: Global, definition: &Definition, args: &Args) -> Result<Value, CallFault>
+    ensures { MatchResult result
+        (λ v. called_of (definition_read definition.now) args.now ≡ answered_value (tree_of v))
         (λ f. IsError f (called_of (definition_read definition.now) args.now)) }
 {
     let members = args.value().members();
@@ -109,20 +113,22 @@ fn called(alloc: Global, definition: &Definition, args: &Args) -> Result<Value, 
     if !has_parameters(&definition.parameters, members) {
         return Err(CallFault::Task(TaskError::ExtraArgument));
     }
-    evaluated(alloc, args, &definition.body)
+    evaluate_body(alloc, args, &definition.body)
 }
 
 fn answer(alloc: Global, code: &str, args: &Args) -> Result<Value, CallFault>
-    ensures { MatchResult result (λ v. answer_of code.now args.now ≡ answered_value (tree_of v)) (λ e. IsError e (answer_of code.now args.now)) }
+    ensures { MatchResult result
+        (λ v. answer_of code.now args.now ≡ answered_value (tree_of v))
+        (λ e. IsError e (answer_of code.now args.now)) }
 {
     match read_definition(alloc, code.as_bytes()) {
-        Ok(definition) => called(alloc, &definition, args),
+        Ok(definition) => call_definition(alloc, &definition, args),
         Err(LineFault::Faulty(_)) => Err(CallFault::Task(TaskError::BadKind)),
         Err(LineFault::Memory) => Err(CallFault::NoMemory),
     }
 }
 
-fn outcome(alloc: Global, code: &str, args: &Args) -> Called
+fn outcome_of(alloc: Global, code: &str, args: &Args) -> Called
     ensures { IfDone result (λ a. a ≡ answer_of code.now args.now) }
 {
     match answer(alloc, code, args) {
@@ -174,7 +180,7 @@ impl Library for Lang {
     fn call(&mut self, alloc: Global, name: &str, args: &Args) -> Called {
         match find(self.module.as_slice(), name.as_bytes()) {
             Some((code, _)) => {
-                let called = outcome(alloc, code, args);
+                let called = outcome_of(alloc, code, args);
                 match called {
                     Called::Done(outcome) => {
                         self.count = self.count.saturating_add(1);

@@ -9,12 +9,5 @@ mod scope;
 pub use lang::Lang;
 pub use laws::{
     a_list_has_a_member_for_each, a_list_has_what_its_condition_lets_through,
-    answers_keep_the_limits, evaluation_is_of_code_and_arguments, the_count_keeps_its_limit,
+    answers_keep_the_limits, the_count_keeps_its_limit,
 };
-
-#[cfg(test)]
-mod call_tests;
-#[cfg(test)]
-mod list_tests;
-#[cfg(test)]
-mod tests;

@@ -1,4 +1,4 @@
-use Rattle.std.proofs.Common.{◌≡◌, ◌≤◌, ◌+◌, ◌*◌, max, [], ◌∷◌, drop}
+use Rattle.std.proofs.Common.{◌≡◌, ◌+◌, ◌*◌, max, [], ◌∷◌, drop}
 use Rattle.jl_value.specs.Tree.{members_of as pairs_of}
 use Rattle.jl_value.specs.Form.{trees_of}
 use Rattle.jl_value.specs.Proper.{AreKeys, keys}
@@ -24,8 +24,8 @@ decreases-behind_left l = 4 * height l.right.now + 2
 abbrev pub decreases-between : goal.decreases-between
 decreases-between l = 4 * max (height l.left.now) (height l.right.now) + 3
 
-abbrev pub decreases-counted_again : goal.decreases-counted_again
-decreases-counted_again l = 4 * height l.tree.now + 1
+abbrev pub decreases-count_again : goal.decreases-count_again
+decreases-count_again l = 4 * height l.tree.now + 1
 
 abbrev pub decreases-choice : goal.decreases-choice
 decreases-choice l = 4 * max (height l.first.now) (max (height l.condition.now) (height l.last.now)) + 3
@@ -33,50 +33,49 @@ decreases-choice l = 4 * max (height l.first.now) (max (height l.condition.now) 
 abbrev pub decreases-index : goal.decreases-index
 decreases-index l = 4 * max (height l.whole.now) (height l.at.now) + 3
 
-abbrev pub decreases-called : goal.decreases-called
-decreases-called l = 4 * height l.member.now + 3
+abbrev pub decreases-call_value : goal.decreases-call_value
+decreases-call_value l = 4 * height l.member.now + 3
 
-abbrev pub decreases-spanned : goal.decreases-spanned
-decreases-spanned l = 4 * max (height l.first.now) (height l.end.now) + 3
+abbrev pub decreases-range_value : goal.decreases-range_value
+decreases-range_value l = 4 * max (height l.first.now) (height l.end.now) + 3
 
-abbrev pub decreases-listed : goal.decreases-listed
-decreases-listed l = 4 * members_height (members_of l.members.now) + 3
+abbrev pub decreases-list_value : goal.decreases-list_value
+decreases-list_value l = 4 * members_height (members_of l.members.now) + 3
 
-abbrev pub decreases-tabled : goal.decreases-tabled
-decreases-tabled l = 4 * entries_height (entries_of l.entries.now) + 3
+abbrev pub decreases-table_value : goal.decreases-table_value
+decreases-table_value l = 4 * entries_height (entries_of l.entries.now) + 3
 
-abbrev pub decreases-each : goal.decreases-each
-decreases-each l = 4 * max (height l.member.now) (height l.over.now) + 3
+abbrev pub decreases-list_of_each : goal.decreases-list_of_each
+decreases-list_of_each l = 4 * max (height l.member.now) (height l.over.now) + 3
 
-abbrev pub decreases-each_over : goal.decreases-each_over
-decreases-each_over l = 4 * height l.member.now + 2
+abbrev pub decreases-list_over : goal.decreases-list_over
+decreases-list_over l = 4 * height l.member.now + 2
 
-abbrev pub decreases-filtered : goal.decreases-filtered
-decreases-filtered l = 4 * max (height l.member.now) (max (height l.over.now) (height l.condition.now)) + 3
+abbrev pub decreases-list_of_some : goal.decreases-list_of_some
+decreases-list_of_some l = 4 * max (height l.member.now) (max (height l.over.now) (height l.condition.now)) + 3
 
-abbrev pub decreases-filtered_over : goal.decreases-filtered_over
-decreases-filtered_over l = 4 * max (height l.member.now) (height l.condition.now) + 2
+abbrev pub decreases-filter_over : goal.decreases-filter_over
+decreases-filter_over l = 4 * max (height l.member.now) (height l.condition.now) + 2
 
 abbrev pub decreases-take_member : goal.decreases-take_member
 decreases-take_member l = 4 * max (height l.member.now) (height l.condition.now) + 1
 
-abbrev pub invariant-listed-loop-member : goal.invariant-listed-loop-member
-invariant-listed-loop-member l =
-    (l.count ≤ 16777216)
-    × (members_value (scope_of l.scope) (members_of (drop l.member-index l.members)) (trees_of l.values.items) l.count ≡ members_value (scope_of l.scope) (members_of l.members) [] l.start)
+abbrev pub invariant-list_value-loop-member : goal.invariant-list_value-loop-member
+invariant-list_value-loop-member l =
+    members_value (scope_of l.scope) (members_of (drop l.member-index l.members)) (trees_of l.values.items) l.steps
+    ≡ members_value (scope_of l.scope) (members_of l.members) [] l.start
 
-abbrev pub invariant-tabled-loop-key : goal.invariant-tabled-loop-key
-invariant-tabled-loop-key l =
-    (l.count ≤ 16777216) × AreKeys (keys (pairs_of (pairs_in l.members.entries)))
-    × (entries_value (scope_of l.scope) (entries_of (drop l.key-index l.entries)) (pairs_in l.members.entries) l.count ≡ entries_value (scope_of l.scope) (entries_of l.entries) [] l.start)
+abbrev pub invariant-table_value-loop-key : goal.invariant-table_value-loop-key
+invariant-table_value-loop-key l =
+    AreKeys (keys (pairs_of (pairs_in l.members.entries)))
+    × (entries_value (scope_of l.scope) (entries_of (drop l.key-index l.entries)) (pairs_in l.members.entries) l.steps ≡ entries_value (scope_of l.scope) (entries_of l.entries) [] l.start)
 
-abbrev pub invariant-each_over-loop-item : goal.invariant-each_over-loop-item
-invariant-each_over-loop-item l =
-    (l.count ≤ 16777216)
-    × (each_over (λ u k. value_of ((l.variable, u) ∷ scope_of l.scope) l.member k) (trees_of (drop l.item-index l.items)) (trees_of l.values.items) l.count ≡ each_over (λ u k. value_of ((l.variable, u) ∷ scope_of l.scope) l.member k) (trees_of l.items) [] l.start)
+abbrev pub invariant-list_over-loop-item : goal.invariant-list_over-loop-item
+invariant-list_over-loop-item l =
+    each_over (λ u k. value_of ((l.variable, u) ∷ scope_of l.scope) l.member k) (trees_of (drop l.item-index l.items)) (trees_of l.values.items) l.steps
+    ≡ each_over (λ u k. value_of ((l.variable, u) ∷ scope_of l.scope) l.member k) (trees_of l.items) [] l.start
 
-abbrev pub invariant-filtered_over-loop-item : goal.invariant-filtered_over-loop-item
-invariant-filtered_over-loop-item l =
-    (l.count ≤ 16777216)
-    × (filtered_over (λ u k. value_of ((l.variable, u) ∷ scope_of l.scope) l.condition k) (λ u k. value_of ((l.variable, u) ∷ scope_of l.scope) l.member k) (trees_of (drop l.item-index l.items)) (trees_of l.taken_values.items) l.count
-    ≡ filtered_over (λ u k. value_of ((l.variable, u) ∷ scope_of l.scope) l.condition k) (λ u k. value_of ((l.variable, u) ∷ scope_of l.scope) l.member k) (trees_of l.items) [] l.start)
+abbrev pub invariant-filter_over-loop-item : goal.invariant-filter_over-loop-item
+invariant-filter_over-loop-item l =
+    filtered_over (λ u k. value_of ((l.variable, u) ∷ scope_of l.scope) l.condition k) (λ u k. value_of ((l.variable, u) ∷ scope_of l.scope) l.member k) (trees_of (drop l.item-index l.items)) (trees_of l.values.items) l.steps
+    ≡ filtered_over (λ u k. value_of ((l.variable, u) ∷ scope_of l.scope) l.condition k) (λ u k. value_of ((l.variable, u) ∷ scope_of l.scope) l.member k) (trees_of l.items) [] l.start
