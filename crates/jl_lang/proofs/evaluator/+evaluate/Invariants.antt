@@ -63,19 +63,19 @@ decreases-take_member l = 4 * max (height l.member.now) (height l.condition.now)
 abbrev pub invariant-list_value-loop-member : goal.invariant-list_value-loop-member
 invariant-list_value-loop-member l =
     members_value (scope_of l.scope) (members_of (drop l.member-index l.members)) (trees_of l.values.items) l.steps
-    ≡ members_value (scope_of l.scope) (members_of l.members) [] l.start
+    ≡ members_value (scope_of l.scope) (members_of l.members) [] l.fn.start
 
 abbrev pub invariant-table_value-loop-key : goal.invariant-table_value-loop-key
 invariant-table_value-loop-key l =
     AreKeys (keys (pairs_of (pairs_in l.members.entries)))
-    × (entries_value (scope_of l.scope) (entries_of (drop l.key-index l.entries)) (pairs_in l.members.entries) l.steps ≡ entries_value (scope_of l.scope) (entries_of l.entries) [] l.start)
+    × (entries_value (scope_of l.scope) (entries_of (drop l.key-index l.entries)) (pairs_in l.members.entries) l.steps ≡ entries_value (scope_of l.scope) (entries_of l.entries) [] l.fn.start)
 
 abbrev pub invariant-list_over-loop-item : goal.invariant-list_over-loop-item
 invariant-list_over-loop-item l =
     each_over (λ u k. value_of ((l.variable, u) ∷ scope_of l.scope) l.member k) (trees_of (drop l.item-index l.items)) (trees_of l.values.items) l.steps
-    ≡ each_over (λ u k. value_of ((l.variable, u) ∷ scope_of l.scope) l.member k) (trees_of l.items) [] l.start
+    ≡ each_over (λ u k. value_of ((l.variable, u) ∷ scope_of l.scope) l.member k) (trees_of l.items) [] l.fn.start
 
 abbrev pub invariant-filter_over-loop-item : goal.invariant-filter_over-loop-item
 invariant-filter_over-loop-item l =
     filtered_over (λ u k. value_of ((l.variable, u) ∷ scope_of l.scope) l.condition k) (λ u k. value_of ((l.variable, u) ∷ scope_of l.scope) l.member k) (trees_of (drop l.item-index l.items)) (trees_of l.values.items) l.steps
-    ≡ filtered_over (λ u k. value_of ((l.variable, u) ∷ scope_of l.scope) l.condition k) (λ u k. value_of ((l.variable, u) ∷ scope_of l.scope) l.member k) (trees_of l.items) [] l.start
+    ≡ filtered_over (λ u k. value_of ((l.variable, u) ∷ scope_of l.scope) l.condition k) (λ u k. value_of ((l.variable, u) ∷ scope_of l.scope) l.member k) (trees_of l.items) [] l.fn.start
