@@ -1,8 +1,8 @@
 // Rows over the number of jobs, windows, sizes of batches and expressions in the number of jobs.
 
-use crate::given::{self, RowFault};
-use crate::told::{self, Told};
 use jl_batch::{Auto, Step, Window, effective_jobs, read_pre_dispatch, replay};
+use jl_script::given::{self, RowFault};
+use jl_script::told::{self, Told};
 use jl_value::Value;
 use std::alloc::Global;
 

@@ -3,13 +3,13 @@
 ghost use Rattle.std.specs.Prelude.{◌≤◌, IfOk, IsTrue};
 ghost use Rattle.jl_text.specs.Texts.{is_name};
 
-use crate::given::{self, RowFault};
-use crate::told::{self, Told};
 use jl_entry::{
     EntryFile, ReadOutput, code_file, entry_file, entry_folder, function_folder, module_folder,
     read_access, read_metadata, read_output, root, same_code, temp_name, write_access, write_code,
     write_metadata, write_output,
 };
+use jl_script::given::{self, RowFault};
+use jl_script::told::{self, Told};
 use jl_text::{Path, is_name};
 use jl_value::{Key, Value, digest};
 use std::alloc::{AllocError, Global};

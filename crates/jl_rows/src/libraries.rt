@@ -1,7 +1,7 @@
 // Rows over the libraries: modules, their codes and their calls, by the trait alone.
 
-use crate::given::{self, RowFault};
-use crate::told::{self, Told};
+use jl_script::given::{self, RowFault};
+use jl_script::told::{self, Told};
 use jl_value::{Args, Called, CodeRef, Library, Outcome, ReadModule, Value};
 use std::alloc::Global;
 

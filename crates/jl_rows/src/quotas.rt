@@ -1,8 +1,8 @@
 // Rows over the limits of a cache.
 
-use crate::given::{self, RowFault};
-use crate::told::Told;
 use jl_quota::{BadLimit, Limits, read_age, read_count, read_size};
+use jl_script::given::{self, RowFault};
+use jl_script::told::Told;
 use jl_value::Value;
 use std::alloc::Global;
 

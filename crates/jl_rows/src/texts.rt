@@ -1,7 +1,7 @@
 // Rows over texts, bytes, names, paths and tokens.
 
-use crate::given::{self, RowFault};
-use crate::told::{self, Told};
+use jl_script::given::{self, RowFault};
+use jl_script::told::{self, Told};
 use jl_text::{Bytes, Path, Token, is_name, is_part};
 use jl_value::Value;
 use std::alloc::Global;

@@ -1,7 +1,7 @@
 // Rows over values, their canonical text and their keys.
 
-use crate::given::{self, RowFault};
-use crate::told::{self, Told};
+use jl_script::given::{self, RowFault};
+use jl_script::told::{self, Told};
 use jl_value::{
     ModuleFaultKind, Numbers, Outcome, Table, TaskError, Value, are_equal, canonical_table, digest,
     read_value,

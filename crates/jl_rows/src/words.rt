@@ -1,7 +1,7 @@
 // Rows over the words of a command line.
 
-use crate::given::{self, RowFault};
-use crate::told::{self, Told};
+use jl_script::given::{self, RowFault};
+use jl_script::told::{self, Told};
 use jl_value::Value;
 use jl_words::{module_name, settings};
 use std::alloc::Global;
