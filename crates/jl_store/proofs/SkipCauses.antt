@@ -43,6 +43,13 @@ check_skipped published.Skipped done ne e = refl
 check_skipped published.Fault done ne e = cc
 check_skipped published.NoMemory done ne e = cc
 
+-- a fault is told only where the publishing had one
+pub check_fault : (p : Published) (done : CodeCheck) → (done ≢ check.StoreFault) → check_of p done ≡ check.StoreFault → p ≡ published.Fault
+check_fault published.Done done ne e = absurd (ne e)
+check_fault published.Skipped done ne e = cc
+check_fault published.Fault done ne e = refl
+check_fault published.NoMemory done ne e = cc
+
 -- ---- places
 
 -- a folder, as a place

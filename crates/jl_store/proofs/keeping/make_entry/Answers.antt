@@ -18,7 +18,7 @@ returns-in-Ok-clause-called g c t text =
     let path : c.in-Ok.path ≡ entry_path e = c.in-Ok.ensures.path ∙ ap (λ m. below (root_of c.args.memory.now.location) (m ∷ c.args.name.now ∷ encode_lower c.args.key.now.0 ∷ [])) c.as_str.ensures in
     let call = subst (λ p. Call token h0 h1 (MakesDir p c.make_dir.result)) path (c.make_dir.ensures.call t) in
     subst (Keeps e token text (λ s. is_folder s (function_path e) ≡ true) (λ steps. Unit {0}) h0 h1) (sym c.made.ensures)
-    (made_keeps e token (c.requires.module_name, c.requires.function_name, c.in-Ok.ensures.key) (ap is_token c.requires.token ∙ c.as_str-_token.ensures.form) h0 h1 text c.make_dir.result call)
+    (made_keeps e token (c.requires.module_name, c.requires.function_name, c.in-Ok.ensures.key) (ap is_token c.requires.token ∙ c.as_str-token.ensures.form) h0 h1 text c.make_dir.result call)
 
 pub returns-in-Ok-clause-ready : goal.returns-in-Ok-clause-ready
 returns-in-Ok-clause-ready g c t is tidy =
@@ -28,7 +28,7 @@ returns-in-Ok-clause-ready g c t is tidy =
     let h1 = g.F.Folder.history c.make_dir.new.self in
     let path : c.in-Ok.path ≡ entry_path e = c.in-Ok.ensures.path ∙ ap (λ m. below (root_of c.args.memory.now.location) (m ∷ c.args.name.now ∷ encode_lower c.args.key.now.0 ∷ [])) c.as_str.ensures in
     let call = subst (λ p. Call token h0 h1 (MakesDir p c.make_dir.result)) path (c.make_dir.ensures.call t) in
-    made_ready e token (c.requires.module_name, c.requires.function_name, c.in-Ok.ensures.key) (ap is_token c.requires.token ∙ c.as_str-_token.ensures.form) h0 h1 c.make_dir.result call (sym c.made.ensures ∙ is) tidy
+    made_ready e token (c.requires.module_name, c.requires.function_name, c.in-Ok.ensures.key) (ap is_token c.requires.token ∙ c.as_str-token.ensures.form) h0 h1 c.make_dir.result call (sym c.made.ensures ∙ is) tidy
 
 pub returns-in-Ok-clause-alone : goal.returns-in-Ok-clause-alone
 returns-in-Ok-clause-alone g c t is lone =
@@ -38,7 +38,7 @@ returns-in-Ok-clause-alone g c t is lone =
     let h1 = g.F.Folder.history c.make_dir.new.self in
     let path : c.in-Ok.path ≡ entry_path e = c.in-Ok.ensures.path ∙ ap (λ m. below (root_of c.args.memory.now.location) (m ∷ c.args.name.now ∷ encode_lower c.args.key.now.0 ∷ [])) c.as_str.ensures in
     let call = subst (λ p. Call token h0 h1 (MakesDir p c.make_dir.result)) path (c.make_dir.ensures.call t) in
-    made_alone e token (c.requires.module_name, c.requires.function_name, c.in-Ok.ensures.key) (ap is_token c.requires.token ∙ c.as_str-_token.ensures.form) h0 h1 c.make_dir.result call (sym c.made.ensures ∙ is) lone
+    made_alone e token (c.requires.module_name, c.requires.function_name, c.in-Ok.ensures.key) (ap is_token c.requires.token ∙ c.as_str-token.ensures.form) h0 h1 c.make_dir.result call (sym c.made.ensures ∙ is) lone
 
 pub returns-in-Err-clause-called : goal.returns-in-Err-clause-called
 returns-in-Err-clause-called g c t text =
