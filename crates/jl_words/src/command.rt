@@ -1,4 +1,4 @@
-// The commands and their options.
+// Command line: the commands and their options.
 ghost use Rattle.std.specs.Prelude.{◌≡◌, [], ◌∷◌, map};
 ghost use Rattle.jl_words.specs.declared.command.Command.TheVariants.{ReduceSize, Worker, Tracker, Gen};
 ghost use Rattle.jl_words.specs.Commands.{command_of, command_among, options_of};

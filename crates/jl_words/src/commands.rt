@@ -1,4 +1,4 @@
-// What the options and plain words of each command set.
+// Command line: what the options and plain words of each command set.
 ghost use Rattle.std.specs.Prelude.{◌≡◌, [], ◌∷◌, map, Some, None, Ok, Err, IfOk, codes};
 ghost use Rattle.jl_quota.specs.Limits.{size_of, count_of, age_of};
 ghost use Rattle.jl_words.specs.Parts.{said_in};

@@ -1,4 +1,4 @@
-// What holds of all settings.
+// Command line: what holds of all settings.
 ghost use Rattle.jl_words.specs.Laws.{ModulesHaveNames, TargetsHaveNames};
 
 /// The module that a command takes has a name, which its file's path ends with.

@@ -1,9 +1,9 @@
-//! The words of a command line.
+//! The command line: the words of a command, and what they set.
 #![tactic(auto)]
 
 mod command;
 mod commands;
-mod law;
+mod laws;
 mod module;
 mod parallel;
 mod parser;
@@ -13,10 +13,7 @@ mod types;
 mod values;
 mod words;
 
-pub use law::{modules_have_names, targets_have_names};
+pub use laws::{modules_have_names, targets_have_names};
 pub use module::module_name;
 pub use types::{Backend, Mode, Settings, SettingsFault};
 pub use words::settings;
-
-#[cfg(test)]
-mod tests;

@@ -1,4 +1,4 @@
-// The name of a module.
+// Command line: the name of a module's file.
 ghost use Rattle.std.specs.Prelude.{◌≡◌, option_map};
 ghost use Rattle.jl_words.specs.ModuleNames.{stem_of, name_of, module_name_of};
 

@@ -1,4 +1,4 @@
-// What the options of `parallel` set.
+// Command line: what the options of `parallel` set.
 ghost use Rattle.std.specs.Prelude.{◌≡◌, Some, None, Ok, Err, IfOk, codes, unwrap_or};
 ghost use Rattle.jl_batch.specs.Reads.{window_of};
 ghost use Rattle.jl_words.specs.Parts.{said_in};

@@ -1,4 +1,4 @@
-// Reading words with clap.
+// Command line: reading words with clap.
 ghost use Rattle.std.specs.Prelude.{◌≡◌, ℕ, List, [], ◌++◌, cond, unwrap_or, OnOk, Some, None, Ok, Err, map, option_map, IfOk, IfErr, string_bytes, false};
 ghost use Rattle.clap.specs.Words.{app_of, rule_of, kind_of, with_rule, first_value, found_of};
 ghost use Rattle.clap.specs.declared.error.kind.ErrorKind.TheVariants as kind;

@@ -1,4 +1,4 @@
-// What the words of a command say.
+// Command line: what the words of a command say.
 ghost use Rattle.std.specs.Prelude.{◌≡◌, option_map};
 ghost use Rattle.jl_words.specs.Reading.{value_among};
 ghost use Rattle.jl_words.specs.Parts.{uses_of, said_in};

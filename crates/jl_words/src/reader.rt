@@ -1,4 +1,4 @@
-// The walk over the words of a command.
+// Command line: the walk over the words of a command.
 ghost use Rattle.std.specs.Prelude.{◌≡◌, ◌∷◌, ◌&&◌, not, Some, None, Ok, Err, map, option_map, option_and_then, IfOk, IfErr, OnOk, is_some, true, MatchOption, nat_eq, string_bytes, cond, drop, codes};
 ghost use Rattle.std.specs.List.{list_any};
 ghost use Rattle.std.specs.Str.{bytes_eq};
@@ -57,10 +57,8 @@ fn name_and_value(body: &str) -> Spelling<'_>
 fn option_word(word: &str) -> Option<Spelling<'_>>
     ensures { option_map spelled_in result ≡ spelled word.now }
 {
-    match without_dashes(word) {
-        Some(body) => Some(name_and_value(body)),
-        None => None,
-    }
+    let body = without_dashes(word)?;
+    Some(name_and_value(body))
 }
 
 fn is_among(names: &[&str], name: &str) -> bool

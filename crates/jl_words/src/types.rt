@@ -1,4 +1,4 @@
-// What a command line sets.
+// Command line: what it sets.
 use jl_batch::{BatchSize, Window};
 use jl_quota::Limits;
 use jl_text::{Path, Text};

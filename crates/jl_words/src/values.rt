@@ -1,4 +1,4 @@
-// The values of options and plain words.
+// Command line: the values of options and plain words.
 ghost use Rattle.std.specs.Prelude.{◌≡◌, ◌<◌, ◌^◌, Some, None, Ok, Err, IfOk, IfSome, option_map, option_and_then, codes};
 ghost use Rattle.std.specs.List.{list_all};
 ghost use Rattle.jl_words.specs.Parts.{said_in};
@@ -80,10 +80,8 @@ fn few(text: &str) -> Option<u32>
     if text.len() > 9 {
         return None;
     }
-    match read_count(text) {
-        Ok(count) => Some(count as u32),
-        Err(_) => None,
-    }
+    let count = read_count(text).ok()?;
+    Some(count as u32)
 }
 
 fn without_minus(text: &str) -> Option<&str>
@@ -166,20 +164,18 @@ pub(crate) fn most_bytes(text: &str) -> Option<Option<u64>>
     if text == "none" {
         return Some(None);
     }
-    match read_size(text) {
-        Ok(size) => Some(Some(size)),
-        Err(_) => None,
-    }
+    read_size(text).ok().map(Some)
 }
 
 /// A count up to `most`.
 pub(crate) fn count_up_to(most: u64, text: &str) -> Option<u64>
     ensures { result ≡ count_up_to most text.now }
 {
-    match read_count(text) {
-        Ok(count) => { if count <= most { Some(count) } else { None } }
-        Err(_) => None,
+    let count = read_count(text).ok()?;
+    if count > most {
+        return None;
     }
+    Some(count)
 }
 
 fn are_key_digits(bytes: &[u8]) -> bool
@@ -195,8 +191,6 @@ pub(crate) fn key(text: &str) -> Option<Key>
     if !are_key_digits(text.as_bytes()) {
         return None;
     }
-    match <[u8; 16] as FromHex>::from_hex(text) {
-        Ok(bytes) => Some(Key(bytes)),
-        Err(_) => None,
-    }
+    let bytes = <[u8; 16] as FromHex>::from_hex(text).ok()?;
+    Some(Key(bytes))
 }

@@ -1,4 +1,4 @@
-// The words of a command line.
+// Command line: its words as a whole.
 ghost use Rattle.std.specs.Prelude.{◌≡◌, ◌<◌, ◌≤◌, Some, None, Ok, Err, map, IfOk, string_bytes, option_and_then};
 ghost use Rattle.jl_words.specs.Parts.{said_in};
 ghost use Rattle.jl_words.specs.Reading.{said_of};
