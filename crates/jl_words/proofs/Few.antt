@@ -1,11 +1,11 @@
 -- Nine digits spell no large number.
-use Rattle.std.proofs.Common.{◌≡◌, ℕ, Bool, true, false, List, length, ◌<◌, ◌≤◌, ◌^◌, Some, None, nat_lt, nat_le, cond, refl, subst, arith}
+use Rattle.std.proofs.Common.{◌≡◌, ℕ, Bool, true, false, List, length, ◌<◌, ◌≤◌, Some, None, nat_lt, nat_le, cond, refl, arith}
 use Rattle.std.specs.Prelude.{Option, if◌then◌else◌}
 use Rattle.std.specs.Char.{is_ascii_digit}
 use Rattle.std.specs.List.{list_all}
 use Rattle.std.proofs.lemmas.Bool.{and_parts}
 use Rattle.std.proofs.lemmas.Option.{same_Some}
-use Rattle.jl_numbers.specs.Digits.{are_digits, decimal, at_most, number_of}
+use Rattle.jl_numbers.specs.Digits.{are_digits, decimal, at_most}
 use Rattle.jl_numbers.proofs.DigitLemmas.{decimal-below, ten-le}
 use Rattle.jl_quota.specs.Limits.{count_of}
 

@@ -13,7 +13,7 @@ use Rattle.jl_words.specs.declared.types.Settings.{Settings}
 use Rattle.jl_words.specs.declared.types.Settings.TheVariants as set
 use Rattle.jl_words.specs.declared.command.Command.{Command}
 use Rattle.jl_words.specs.declared.command.Command.TheVariants.{Call, Hash, Parallel, Session, Clear, ReduceSize, Worker, Tracker, Gen}
-use Rattle.jl_words.specs.Targets.{IsTarget, Targets}
+use Rattle.jl_words.specs.Targets.{Targets}
 
 -- whatever may be set
 abbrev pub AllTargets : Option Settings → Type 0
