@@ -10,3 +10,4 @@ pub mod MadeAnswers
 pub mod ReduceEnds
 pub mod TrackerEnds
 pub mod TrackerMoves
+pub mod ReportLemmas

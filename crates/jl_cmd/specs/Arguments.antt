@@ -1,5 +1,6 @@
 -- The arguments that a text gives.
 use Rattle.std.specs.Prelude.{ℕ, List, length, Result, Ok, Err, if◌then◌else◌, nat_lt}
+use Rattle.jl_text.specs.declared.limits.TheConstants.{MOST_TEXT_BYTES, MOST_VALUE_DEPTH}
 use Rattle.jl_value.specs.declared.fault.ValueFault.{ValueFault}
 use Rattle.jl_value.specs.declared.fault.ValueFault.TheVariants as value
 use Rattle.jl_value.specs.Tree.{Tree, null, truth, whole, text, list, table, numbers, pairs_of}
@@ -18,7 +19,7 @@ fault_of value.Memory = Memory
 
 -- arguments whose canonical text has at most 1,048,576 bytes
 abbrev pub sized_of : List (List ℕ × Tree) → Result (List (List ℕ × Tree)) ArgumentsFault
-sized_of ps = if nat_lt 1048576 (length (text_of (args_tree ps))) then Err TooLong else Ok ps
+sized_of ps = if nat_lt MOST_TEXT_BYTES (length (text_of (args_tree ps))) then Err TooLong else Ok ps
 
 -- the members of a table
 abbrev pub members_in : Tree → Result (List (List ℕ × Tree)) ArgumentsFault
@@ -36,4 +37,4 @@ table_in (Err e) = Err (fault_of e)
 
 -- a JSON table of at most 1,048,576 bytes, nested at most 64 deep, whose canonical text is no longer either
 unfoldable pub arguments_of : List ℕ → Result (List (List ℕ × Tree)) ArgumentsFault
-arguments_of s = if nat_lt 1048576 (length s) then Err TooLong else table_in (read_bytes 64 s)
+arguments_of s = if nat_lt MOST_TEXT_BYTES (length s) then Err TooLong else table_in (read_bytes MOST_VALUE_DEPTH s)

@@ -1,7 +1,8 @@
 -- How a run ends: what was read and written by then, and why.
-use Rattle.std.specs.Prelude.{◌≡◌, ℕ, List, [], ◌++◌, false, Option, Some, None, codes, ⊤}
+use Rattle.std.specs.Prelude.{◌≡◌, ℕ, ◌+◌, List, [], ◌++◌, false, Option, Some, None, codes, ⊤}
 use Rattle.jl_text.specs.Paths.{PathView}
 use Rattle.jl_text.specs.Counts.{Rose}
+use Rattle.jl_text.specs.declared.limits.TheConstants.{MOST_TEXT_BYTES}
 use Rattle.jl_folder.specs.State.{State, Trace, History, AtSome, now, since, is_file}
 use Rattle.jl_folder.specs.Reading.{ReadsNamed}
 use Rattle.jl_streams.specs.Streams.{WritesPrefix}
@@ -71,7 +72,7 @@ tells f o c = record { folder = f; out = o; cache = c }
 -- a first part of the steps read the file: one of them found its path naming a node of these bytes, of a longer file up to the first byte past
 -- the limit
 abbrev pub ReadsFirst : PathView → List ℕ → State → Trace → Type 0
-ReadsFirst path m s steps = (reading : Trace) × (rest : Trace) × (steps ≡ reading ++ rest) × ReadsNamed path 1048577 m s reading
+ReadsFirst path m s steps = (reading : Trace) × (rest : Trace) × (steps ≡ reading ++ rest) × ReadsNamed path (MOST_TEXT_BYTES + 1) m s reading
 
 -- the same of the module's file; without one nothing is read
 abbrev pub ReadsModule : Option PathView → List ℕ → Scene → Type 0

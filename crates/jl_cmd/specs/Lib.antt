@@ -8,6 +8,7 @@ pub mod Endings
 pub mod Following
 pub mod Output
 pub mod Promises
+pub mod Reporting
 pub mod Reports
 pub mod Run
 pub mod Saying

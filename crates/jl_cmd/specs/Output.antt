@@ -3,6 +3,7 @@ use Rattle.std.specs.Prelude.{ℕ, List, [], ◌∷◌, ◌++◌, length, Option
 use Rattle.std.specs.Fmt.{decimal}
 use Rattle.jl_lines.specs.Lines.{is_newline}
 use Rattle.jl_text.specs.Paths.{PathView}
+use Rattle.jl_text.specs.declared.limits.TheConstants.{MOST_TEXT_BYTES}
 use Rattle.jl_value.specs.declared.library.TaskError.{TaskError}
 use Rattle.jl_value.specs.declared.library.ModuleFault.{ModuleFault}
 use Rattle.jl_value.specs.declared.library.ModuleFaultKind.TheVariants as module_fault
@@ -71,7 +72,7 @@ too_large = record { line = 1; kind = module_fault.TooLarge }
 
 -- the fault of a module's bytes: it is too large, or what the library says
 abbrev pub module_fault_of : (List ℕ → Option ModuleFault) → List ℕ → Option ModuleFault
-module_fault_of fault m = if nat_lt 1048576 (length m) then Some too_large else fault m
+module_fault_of fault m = if nat_lt MOST_TEXT_BYTES (length m) then Some too_large else fault m
 
 -- `call`: the module's bytes, the function's name and the text of the arguments, over a library's meanings
 abbrev pub call_output : (code : List ℕ → List ℕ → Option (List ℕ)) → (List ℕ → Option ModuleFault) → (List ℕ → List (List ℕ × Tree) → Answer) → List ℕ → List ℕ → List ℕ → Output

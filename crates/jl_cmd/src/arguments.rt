@@ -1,5 +1,6 @@
 // Reads the arguments of a call.
 ghost use Rattle.std.specs.Prelude.{◌≡◌, ◌≢◌, ◌≤◌, IfOk, IfErr, Ok, Err, length};
+ghost use Rattle.jl_text.specs.declared.limits.TheConstants.{MOST_TEXT_BYTES, MOST_VALUE_DEPTH};
 ghost use Rattle.jl_value.specs.Tree.{nesting};
 ghost use Rattle.jl_value.specs.Canonical.{text_of};
 ghost use Rattle.jl_value.specs.Key.{args_tree};
@@ -7,6 +8,7 @@ ghost use Rattle.jl_value.specs.Proper.{IsProper};
 ghost use Rattle.jl_cmd.specs.declared.arguments.ArgumentsFault.TheVariants.{Memory};
 ghost use Rattle.jl_cmd.specs.Arguments.{arguments_of, sized_of, fault_of as fault_of_lem};
 
+use jl_text::limits::{MOST_TEXT_BYTES, MOST_VALUE_DEPTH};
 use jl_value::{Args, ValueFault, canonical_table, read_value};
 use std::alloc::Global;
 use thiserror::Error;
@@ -32,12 +34,6 @@ pub enum ArgumentsFault {
     Memory,
 }
 
-// The bytes of a text of arguments, at most.
-const LIMIT: usize = 1_048_576;
-
-// How deep the lists and tables of arguments may nest.
-const DEPTH: u32 = 64;
-
 fn fault_of(fault: ValueFault) -> ArgumentsFault
     ensures { result ≡ fault_of_lem fault }
 {
@@ -54,11 +50,11 @@ fn fault_of(fault: ValueFault) -> ArgumentsFault
 fn sized(alloc: Global, args: Args) -> Result<Args, ArgumentsFault>
     ensures given { IfOk result (λ a. (a ≡ args) × (sized_of args ≡ Ok a)) }
     ensures proper { IfOk result (λ a. IsProper (args_tree a)) }
-    ensures size { IfOk result (λ a. length (text_of (args_tree a)) ≤ 1048576) }
+    ensures size { IfOk result (λ a. length (text_of (args_tree a)) ≤ MOST_TEXT_BYTES) }
     ensures fault { IfErr result (λ e. e ≢ Memory → sized_of args ≡ Err e) }
 {
     match canonical_table(alloc, args.value()) {
-        Ok(text) if text.as_str().len() > LIMIT => Err(ArgumentsFault::TooLong),
+        Ok(text) if text.as_str().len() > MOST_TEXT_BYTES => Err(ArgumentsFault::TooLong),
         Ok(_) => Ok(args),
         Err(_) => Err(ArgumentsFault::Memory),
     }
@@ -68,14 +64,14 @@ fn sized(alloc: Global, args: Args) -> Result<Args, ArgumentsFault>
 pub fn read_arguments(alloc: Global, text: &str) -> Result<Args, ArgumentsFault>
     ensures given { IfOk result (λ a. arguments_of text.now ≡ Ok a) }
     ensures proper { IfOk result (λ a. IsProper (args_tree a)) }
-    ensures depth { IfOk result (λ a. nesting (args_tree a) ≤ 64) }
-    ensures size { IfOk result (λ a. length (text_of (args_tree a)) ≤ 1048576) }
+    ensures depth { IfOk result (λ a. nesting (args_tree a) ≤ MOST_VALUE_DEPTH) }
+    ensures size { IfOk result (λ a. length (text_of (args_tree a)) ≤ MOST_TEXT_BYTES) }
     ensures fault { IfErr result (λ e. e ≢ Memory → arguments_of text.now ≡ Err e) }
 {
-    if text.len() > LIMIT {
+    if text.len() > MOST_TEXT_BYTES {
         return Err(ArgumentsFault::TooLong);
     }
-    match read_value(alloc, text.as_bytes(), DEPTH) {
+    match read_value(alloc, text.as_bytes(), MOST_VALUE_DEPTH) {
         Ok(value) => match Args::from_value(value) {
             Ok(args) => sized(alloc, args),
             Err(_) => Err(ArgumentsFault::NotTable),

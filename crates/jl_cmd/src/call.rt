@@ -27,13 +27,14 @@ use crate::warn::lines_of;
 use jl_folder::{FileRead, Folder, Path, read_file};
 use jl_store::{Memory, Warning};
 use jl_streams::{Host, Sink, WroteAll, write_all};
+use jl_text::limits::MOST_TEXT_BYTES;
 use jl_text::{Text, Token};
 use jl_value::Library;
 use jl_words::module_name;
 use std::alloc::{AllocError, Global};
 
 // A module is read up to the first byte past its limit.
-const MOST: usize = 1_048_577;
+const MOST_READ: usize = MOST_TEXT_BYTES + 1;
 
 /// How a command ended, and the lines of its warnings.
 #[derive(Drop)]
@@ -167,7 +168,7 @@ pub fn call<L: Library, F: Folder, O: Sink, H: Host>(
     let Ok(memory) = memory_of(alloc, file, location, host.token()) else {
         return ended(alloc, Ended::NoMemory);
     };
-    match read_file(alloc, folder, file, MOST) {
+    match read_file(alloc, folder, file, MOST_READ) {
         FileRead::Bytes(bytes) => {
             let mut warnings = Vec::new(alloc);
             let computed = compute(

@@ -10,6 +10,7 @@ ghost use Rattle.jl_protocol.specs.Tidy.{IsSound};
 ghost use Rattle.jl_protocol.specs.Proper.{IsLawful};
 ghost use Rattle.jl_rely.specs.Claims.{Called as CallsFolder};
 ghost use Rattle.jl_text.specs.Counts.{Rose};
+ghost use Rattle.jl_text.specs.declared.limits.TheConstants.{MOST_TEXT_BYTES};
 ghost use Rattle.jl_folder.specs.State.{now, since};
 ghost use Rattle.jl_rely.specs.Steps.{IsLone};
 ghost use Rattle.jl_store.specs.Next.{asked};
@@ -26,11 +27,9 @@ use crate::computed::{Computed, failed, printed, refused_arguments, refused_modu
 use jl_folder::Folder;
 use jl_store::{Cached, Memory, Warning, call_cached};
 use jl_streams::Host;
+use jl_text::limits::MOST_TEXT_BYTES;
 use jl_value::{Args, Library, ModuleFault, ModuleFaultKind, ReadModule};
 use std::alloc::Global;
-
-// The bytes of a module, at most.
-const LIMIT: usize = 1_048_576;
 
 // Calls a function that is defined.
 fn answered<L: Library, F: Folder, H: Host>(
@@ -46,10 +45,10 @@ fn answered<L: Library, F: Folder, H: Host>(
     requires token { F.token folder.old ≡ memory.now.token }
     requires module_name { IsTrue (is_name memory.now.module) }
     requires defined { IsSome (L.code (L.loaded lib.old) name.now) }
-    requires module_size { length (L.loaded lib.old) ≤ 1048576 }
+    requires module_size { length (L.loaded lib.old) ≤ MOST_TEXT_BYTES }
     requires proper { IsProperTree (args_tree args.now) }
     requires depth { nesting (args_tree args.now) ≤ 64 }
-    requires size { length (text_of (args_tree args.now)) ≤ 1048576 }
+    requires size { length (text_of (args_tree args.now)) ≤ MOST_TEXT_BYTES }
     ensures lawful { F.told folder.old
         → CallsFolder (IsLawful (root_of memory.now.location) L.answer) (IsLawful (root_of memory.now.location) L.answer)
         (F.token folder.old) AnyMove (IsSound (root_of memory.now.location) L.answer) (IsSound (root_of memory.now.location) L.answer)
@@ -101,7 +100,7 @@ fn called<L: Library, F: Folder, H: Host>(
 ) -> Computed
     requires token { F.token folder.old ≡ memory.now.token }
     requires module_name { IsTrue (is_name memory.now.module) }
-    requires module_size { length (L.loaded lib.old) ≤ 1048576 }
+    requires module_size { length (L.loaded lib.old) ≤ MOST_TEXT_BYTES }
     ensures lawful { F.told folder.old
         → CallsFolder (IsLawful (root_of memory.now.location) L.answer) (IsLawful (root_of memory.now.location) L.answer)
         (F.token folder.old) AnyMove (IsSound (root_of memory.now.location) L.answer) (IsSound (root_of memory.now.location) L.answer)
@@ -178,7 +177,7 @@ pub fn compute<L: Library, F: Folder, H: Host>(
     ensures faults { F.faults folder.old ≤ F.faults folder.new }
     ensures host { H.token host.new ≡ H.token host.old }
 {
-    if bytes.len() > LIMIT {
+    if bytes.len() > MOST_TEXT_BYTES {
         return refused_module(
             alloc,
             ModuleFault {

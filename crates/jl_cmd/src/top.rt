@@ -16,6 +16,7 @@ ghost use Rattle.jl_cmd.specs.Reports.{GivenReduces, MadeBy, IsMomentOf};
 ghost use Rattle.jl_cmd.specs.Promises.{IsWhole, IsSilent, IsStatus, IsUnmoved, text_of_status};
 ghost use Rattle.jl_cmd.specs.Promises.{Answers, AnswersFront, CountsCalls, IsValid, IsFaultless, IsComplete};
 ghost use Rattle.jl_cmd.specs.Calling.{EndedAt, course_of};
+ghost use Rattle.jl_cmd.specs.Reporting.{WroteBoth, WroteLast};
 ghost use Rattle.jl_cmd.specs.Saying.{GivenLines, SaidBy, GivenLeaves, StatusAt};
 ghost use Rattle.jl_cmd.specs.Coming.{GivenComes, EndsWith, PutsOut};
 ghost use Rattle.jl_cmd.specs.Run.{GivenCalls, AreCalling};
@@ -191,10 +192,12 @@ fn command<L: Library, F: Folder, S: Source, O: Sink, E: Sink, H: Host>(
 }
 
 // Writes the texts of the error stream: the lines of the warnings, and the last text.
-// A fault of that stream drops a text and changes nothing else.
+// A fault of that stream drops its own text and changes nothing else.
 fn report<E: Sink>(err: &mut E, warned: &Warned)
     ensures text { E.told err.old → (Rose (E.faults err.old) (E.faults err.new) → ⊥)
         → E.written err.new ≡ E.written err.old ++ (warned.now.lines ++ last_text warned.now.ended) }
+    ensures each { E.told err.old → WroteBoth warned.now.lines (last_text warned.now.ended)
+        (E.written err.old) (E.written err.new) (E.faults err.old) (E.faults err.new) }
     ensures told { E.told err.old → E.told err.new }
     ensures later { E.faults err.old ≤ E.faults err.new }
 {
@@ -262,6 +265,9 @@ pub fn run<L: Library, F: Folder, S: Source, O: Sink, E: Sink, H: Host>(
         → (said : List ℕ) × SaidBy (given_by words.now (H.processors host.old))
         (course_of L.code L.line F.told F.token F.history F.faults folder.old folder.new) said
         × (E.written err.new ≡ E.written err.old ++ (said ++ text_of_status result)) }
+    // A fault of the error stream in another text keeps the last one from nothing.
+    ensures tried { IsSilent result ⊎ (result ≡ 6) → E.told err.old
+        → WroteLast (text_of_status result) (E.written err.new) (E.faults err.old) (E.faults err.new) }
     ensures calls { CountsCalls (AreCalling (given_by words.now (H.processors host.old))) result (L.calls lib.old) (L.calls lib.new) }
     // Whatever others do, each of its own moves is lawful wherever all moves before it since its beginning were.
     ensures lawful { F.told folder.old → RunsLawfully (given_by words.now (H.processors host.old)) L.answer

@@ -6,8 +6,8 @@ use Rattle.jl_cmd.specs.Coming.{ComesCalled, HasComputed}
 use Rattle.jl_cmd.proofs.CallingLemmas.{computed_map, refused_at}
 use Rattle.jl_cmd.proofs.compute.compute.Goals as goal
 
-pub returns-then-bytes-gt-LIMIT-clause-lawful : goal.returns-then-bytes-gt-LIMIT-clause-lawful
-returns-then-bytes-gt-LIMIT-clause-lawful g c = λ told. lawful_none _ _ _ (g.F.Folder.history c.args.folder.now)
+pub returns-then-bytes-gt-MOST_TEXT_BYTES-clause-lawful : goal.returns-then-bytes-gt-MOST_TEXT_BYTES-clause-lawful
+returns-then-bytes-gt-MOST_TEXT_BYTES-clause-lawful g c = λ told. lawful_none _ _ _ (g.F.Folder.history c.args.folder.now)
 
 pub returns-in-Fault-clause-lawful : goal.returns-in-Fault-clause-lawful
 returns-in-Fault-clause-lawful g c = λ told. lawful_none _ _ _ (g.F.Folder.history c.args.folder.now)
@@ -15,8 +15,8 @@ returns-in-Fault-clause-lawful g c = λ told. lawful_none _ _ _ (g.F.Folder.hist
 pub returns-in-NoMemory-clause-lawful : goal.returns-in-NoMemory-clause-lawful
 returns-in-NoMemory-clause-lawful g c = λ told. lawful_none _ _ _ (g.F.Folder.history c.args.folder.now)
 
-pub returns-then-bytes-gt-LIMIT-clause-warns : goal.returns-then-bytes-gt-LIMIT-clause-warns
-returns-then-bytes-gt-LIMIT-clause-warns g c = ([], sym (append-nil _), inl refl)
+pub returns-then-bytes-gt-MOST_TEXT_BYTES-clause-warns : goal.returns-then-bytes-gt-MOST_TEXT_BYTES-clause-warns
+returns-then-bytes-gt-MOST_TEXT_BYTES-clause-warns g c = ([], sym (append-nil _), inl refl)
 
 pub returns-in-Fault-clause-warns : goal.returns-in-Fault-clause-warns
 returns-in-Fault-clause-warns g c = ([], sym (append-nil _), inl refl)
@@ -24,8 +24,8 @@ returns-in-Fault-clause-warns g c = ([], sym (append-nil _), inl refl)
 pub returns-in-NoMemory-clause-warns : goal.returns-in-NoMemory-clause-warns
 returns-in-NoMemory-clause-warns g c = ([], sym (append-nil _), inl refl)
 
-pub returns-then-bytes-gt-LIMIT-clause-alone : goal.returns-then-bytes-gt-LIMIT-clause-alone
-returns-then-bytes-gt-LIMIT-clause-alone g c = λ told lone sound rose. refused_at c.refused_module.result _ c.refused_module.ensures.refused
+pub returns-then-bytes-gt-MOST_TEXT_BYTES-clause-alone : goal.returns-then-bytes-gt-MOST_TEXT_BYTES-clause-alone
+returns-then-bytes-gt-MOST_TEXT_BYTES-clause-alone g c = λ told lone sound rose. refused_at c.refused_module.result _ c.refused_module.ensures.refused
 
 pub returns-in-Fault-clause-alone : goal.returns-in-Fault-clause-alone
 returns-in-Fault-clause-alone g c = λ told lone sound rose. refused_at c.refused_module-in-Fault.result _ c.refused_module-in-Fault.ensures.refused
@@ -49,8 +49,8 @@ returns-in-Read-clause-alone g c = λ told lone sound rose.
     (λ n h. subst (λ (k : ℕ). leaves c.args.bytes.now k n) calls (subst (λ (bytes : List ℕ). leaves bytes (lib.calls c.read_module.new.self) n) loaded h))
     (c.called.ensures.alone told lone sound rose)
 
-pub returns-then-bytes-gt-LIMIT-clause-comes : goal.returns-then-bytes-gt-LIMIT-clause-comes
-returns-then-bytes-gt-LIMIT-clause-comes g c = refused_at c.refused_module.result _ c.refused_module.ensures.refused
+pub returns-then-bytes-gt-MOST_TEXT_BYTES-clause-comes : goal.returns-then-bytes-gt-MOST_TEXT_BYTES-clause-comes
+returns-then-bytes-gt-MOST_TEXT_BYTES-clause-comes g c = refused_at c.refused_module.result _ c.refused_module.ensures.refused
 
 pub returns-in-Fault-clause-comes : goal.returns-in-Fault-clause-comes
 returns-in-Fault-clause-comes g c = refused_at c.refused_module-in-Fault.result _ c.refused_module-in-Fault.ensures.refused

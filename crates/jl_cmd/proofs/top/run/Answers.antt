@@ -13,6 +13,7 @@ use Rattle.jl_cmd.proofs.TrackerEnds.{run_says, runs_tracker}
 use Rattle.jl_cmd.proofs.ClearEnds.{clears_at}
 use Rattle.jl_cmd.proofs.ReduceEnds.{reduces_at}
 use Rattle.jl_cmd.proofs.MadeAnswers.{reduces_of, answers_made, front_made}
+use Rattle.jl_cmd.proofs.ReportLemmas.{last_of_both}
 use Rattle.jl_streams.specs.Moments.{moment_of}
 use Rattle.jl_cmd.proofs.top.run.Goals as goal
 
@@ -100,3 +101,7 @@ returns-clause-clears g c = clears_at _ _ _ _ _ c.command-warned.result.ended _ 
 
 pub returns-clause-reduces : goal.returns-clause-reduces
 returns-clause-reduces g c = reduces_at _ _ _ _ _ _ _ _ _ _ c.status.ensures c.command-warned.ensures.reduces
+
+pub returns-clause-tried : goal.returns-clause-tried
+returns-clause-tried g c = λ n told.
+    last_of_both _ _ _ _ _ _ _ _ (text_at c.command-warned.result.ended c.status.result c.status.ensures n) c.command-warned.ensures.err_later (c.report.ensures.each (c.command-warned.ensures.err_told told))
