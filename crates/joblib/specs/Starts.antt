@@ -5,7 +5,7 @@ use Rattle.jl_cmd.specs.Output.{Output, hash_output}
 use Rattle.jl_cmd.specs.Promises.{IsWhole}
 use Rattle.jl_cmd.specs.Statuses as status
 use Rattle.jl_cmd.specs.Texts.{error_line}
-use Rattle.joblib.specs.Tokens.{FirstGives, own_of}
+use Rattle.joblib.specs.Tokens.{FirstGives, IsTokenOf, own_of}
 use Rattle.joblib.specs.declared.start.StartFault.{StartFault}
 use Rattle.joblib.specs.declared.start.StartFault.TheVariants.{Usage, Memory}
 
@@ -25,11 +25,17 @@ pub record PutsWhole (n : ℕ) (out_tells err_clear : Type 0) (written written' 
   pub bytes : out_tells → written' ≡ written ++ o.bytes
   pub text : err_clear → errors' ≡ errors ++ o.text
 
--- what a run of the program's words makes of them: without the word that gave its token, they are wrong usage just where they give no command,
--- unless memory is short; and where they ask for a hash, that of their arguments is put out
-pub record RunsWords (words : List (List ℕ)) (processors : ℕ) (Puts : Output → Type 0) (n : ℕ) : Type 0 where
-  pub token : Option (List ℕ)
-  pub given : FirstGives words token
-  pub usage : given_of (own_of token words) processors ≡ None → (n ≡ status.usage) ⊎ (n ≡ status.no_memory)
-  pub usage_only : n ≡ status.usage → given_of (own_of token words) processors ≡ None
-  pub hashes : (args : List ℕ) → given_of (own_of token words) processors ≡ Some (hash args) → IsWhole n → Puts (hash_output args)
+-- what a run makes of its own words: they are wrong usage just where they give no command, unless memory is short;
+-- and where they ask for a hash, that of their arguments is put out
+pub record RunsOwn (words : List (List ℕ)) (processors : ℕ) (Puts : Output → Type 0) (n : ℕ) : Type 0 where
+  pub usage : given_of words processors ≡ None → (n ≡ status.usage) ⊎ (n ≡ status.no_memory)
+  pub usage_only : n ≡ status.usage → given_of words processors ≡ None
+  pub hashes : (args : List ℕ) → given_of words processors ≡ Some (hash args) → IsWhole n → Puts (hash_output args)
+
+-- what a run of the program's words makes of them: the run's token is the one that the first of them gives, where it gives one,
+-- and the others are the run's own
+pub record RunsWords (words : List (List ℕ)) (processors : ℕ) (token : List ℕ) (Puts : Output → Type 0) (n : ℕ) : Type 0 where
+  pub given : Option (List ℕ)
+  pub gives : FirstGives words given
+  pub chosen : IsTokenOf given token
+  pub own : RunsOwn (own_of given words) processors Puts n

@@ -1,17 +1,14 @@
 // The machine that the program runs on.
-ghost use Rattle.std.specs.Prelude.{◌≡◌, ◌≤◌, ◌^◌, IfSome, MatchResult, min, []};
+ghost use Rattle.std.specs.Prelude.{◌≡◌, ◌≤◌, IfSome, MatchOption, MatchResult, min, []};
 ghost use Rattle.std.specs.Int.NonZero.{non_zero_usize_get};
+ghost use Rattle.jl_text.specs.declared.limits.TheConstants.{LAST_MOMENT, MOST_PROCESSORS};
 
 use jl_streams::Host;
 use jl_text::Token;
+use jl_text::limits::{LAST_MOMENT, MOST_PROCESSORS};
 use std::io;
 use std::num::NonZeroUsize;
 use std::time::{Clock, SystemTime, UNIX_EPOCH};
-
-// The latest moment that a host tells.
-const LAST_MOMENT: u64 = 1 << 62;
-
-const MOST_PROCESSORS: usize = 1024;
 
 /// The system's clock, and what was asked at the start. It tells nothing of its moments.
 #[derive(Drop)]
@@ -20,16 +17,16 @@ pub struct RealHost<R: Clock + Drop> {
     last: u64,
     processors: u32,
     token: Token,
-    ghost last_in_range: { last ≤ 2 ^ 62 },
+    ghost last_in_range: { last ≤ LAST_MOMENT },
     ghost some_processors: { 1 ≤ processors },
-    ghost few_processors: { processors ≤ 1024 },
+    ghost few_processors: { processors ≤ MOST_PROCESSORS },
 }
 
 /// A number of processors: 1 where the system doesn't say, and at most 1,024.
 pub fn count_processors(count: io::Result<NonZeroUsize>) -> u32
     ensures least { 1 ≤ result }
-    ensures most { result ≤ 1024 }
-    ensures exact { MatchResult count (λ n. result ≡ min (non_zero_usize_get n) 1024) (λ e. result ≡ 1) }
+    ensures most { result ≤ MOST_PROCESSORS }
+    ensures exact { MatchResult count (λ n. result ≡ min (non_zero_usize_get n) MOST_PROCESSORS) (λ e. result ≡ 1) }
 {
     match count {
         Ok(count) => count.get().min(MOST_PROCESSORS) as u32,
@@ -39,7 +36,7 @@ pub fn count_processors(count: io::Result<NonZeroUsize>) -> u32
 
 /// Microseconds since 1970 began, where the clock tells.
 pub fn moment_of<R: Clock>(rt: &R) -> Option<u64>
-    ensures { IfSome result (λ t. t ≤ 2 ^ 62) }
+    ensures { IfSome result (λ t. t ≤ LAST_MOMENT) }
 {
     let now = SystemTime::now(rt).ok()?;
     let since = now.duration_since(UNIX_EPOCH).ok()?;
@@ -47,10 +44,20 @@ pub fn moment_of<R: Clock>(rt: &R) -> Option<u64>
     Some(micros.min(LAST_MOMENT))
 }
 
+// The moment that the clock tells, or the last one that it told where it fails.
+fn next_moment(last: u64, moment: Option<u64>) -> u64
+    ensures { MatchOption moment (result ≡ last) (λ m. result ≡ m) }
+{
+    match moment {
+        Some(moment) => moment,
+        None => last,
+    }
+}
+
 impl<R: Clock + Drop> RealHost<R> {
     pub fn new(rt: R, processors: u32, token: Token) -> RealHost<R>
         requires least { 1 ≤ processors }
-        requires most { processors ≤ 1024 }
+        requires most { processors ≤ MOST_PROCESSORS }
         ensures processors { result.processors ≡ processors }
         ensures token { result.token ≡ token }
     {
@@ -60,6 +67,13 @@ impl<R: Clock + Drop> RealHost<R> {
             processors,
             token,
         }
+    }
+
+    /// The token that it told.
+    pub fn into_token(self) -> Token
+        ensures { result ≡ self.token }
+    {
+        self.token
     }
 }
 
@@ -73,9 +87,8 @@ impl<R: Clock + Drop> Host for RealHost<R> {
     ghost moments = { λ h. [] };
 
     fn now(&mut self) -> u64 {
-        if let Some(moment) = moment_of(&self.rt) {
-            self.last = moment;
-        }
+        let moment = moment_of(&self.rt);
+        self.last = next_moment(self.last, moment);
         self.last
     }
 

@@ -1,9 +1,10 @@
 // From the words and the environment to a run.
 ghost use Rattle.std.specs.Prelude.{◌≡◌, ◌⊎◌, ◌≤◌, ◌++◌, ℕ, List, IfOk, IfErr, map, string_bytes};
 ghost use Rattle.jl_text.specs.Counts.{Rose};
+ghost use Rattle.jl_text.specs.declared.limits.TheConstants.{MOST_PROCESSORS};
 ghost use Rattle.joblib.specs.Tokens.{FirstGives, IsTokenOf};
 ghost use Rattle.jl_cmd.specs.Promises.{IsSilent, IsStatus, text_of_status};
-ghost use Rattle.joblib.specs.Starts.{PutsWhole, RunsWords, fault_status, fault_text};
+ghost use Rattle.joblib.specs.Starts.{PutsWhole, RunsOwn, RunsWords, fault_status, fault_text};
 
 use crate::real_folder::RealFolder;
 use crate::real_host::{RealHost, moment_of};
@@ -99,7 +100,64 @@ fn token_of<R: Env + Clock + AllocGlobal>(rt: &R, given: Option<Token>) -> Resul
     choose_token(rt.alloc(), given, text, moment_of(rt).unwrap_or(0))
 }
 
-// Runs the words over the system's files.
+// How a run ended, and the token that it had.
+#[derive(Drop)]
+struct Ending {
+    status: u8,
+    token: Token,
+}
+
+// Runs a run's own words over the system's files, with this token.
+fn run_as<R, S, O, E>(
+    rt: R,
+    processors: u32,
+    token: Token,
+    words: &[String],
+    input: &mut S,
+    out: &mut O,
+    err: &mut E,
+) -> Result<Ending, AllocError>
+where
+    R: Files<File = File> + Env + Clock + AllocGlobal + Copy + Drop,
+    S: Source,
+    O: Sink,
+    E: Sink,
+    requires least { 1 ≤ processors }
+    requires most { processors ≤ MOST_PROCESSORS }
+    ensures token { IfOk result (λ r. r.token ≡ token) }
+    ensures words { IfOk result (λ r. RunsOwn (map string_bytes words.now) processors
+        (PutsWhole r.status (O.told out.old) (E.told err.old × (Rose (E.faults err.old) (E.faults err.new) → ⊥)) (O.written out.old) (O.written out.new)
+        (E.written err.old) (E.written err.new)) r.status) }
+    ensures status { IfOk result (λ r. IsStatus r.status) }
+    ensures nothing { IfOk result (λ r. IsSilent r.status → O.told out.old → O.written out.new ≡ O.written out.old) }
+    ensures write_fault { IfOk result (λ r. r.status ≡ 6 → Rose (O.faults out.old) (O.faults out.new)) }
+    ensures usage_text { IfOk result (λ r. r.status ≡ 2 → E.told err.old → (Rose (E.faults err.old) (E.faults err.new) → ⊥)
+        → E.written err.new ≡ E.written err.old ++ text_of_status r.status) }
+    ensures text { IfOk result (λ r. IsSilent r.status ⊎ (r.status ≡ 6) → E.told err.old → (Rose (E.faults err.old) (E.faults err.new) → ⊥)
+        → (said : List ℕ) × (E.written err.new ≡ E.written err.old ++ (said ++ text_of_status r.status))) }
+    ensures not_run { IfErr result (λ e. (out.new ≡ out.old) × (err.new ≡ err.old)) }
+    ensures out_faults { O.faults out.old ≤ O.faults out.new }
+    ensures err_faults { E.faults err.old ≤ E.faults err.new }
+{
+    let twin = token.copy()?;
+    let mut lib = Lang::new(rt.alloc());
+    let mut folder = RealFolder::new(rt, twin);
+    let mut host = RealHost::new(rt, processors, token);
+    let status = run(
+        rt.alloc(),
+        words,
+        &mut lib,
+        &mut folder,
+        input,
+        out,
+        err,
+        &mut host,
+    );
+    let token = host.into_token();
+    Ok(Ending { status, token })
+}
+
+// Chooses the token, and runs the words without the one that gave it.
 fn run_words<R, S, O, E>(
     rt: R,
     processors: u32,
@@ -107,24 +165,24 @@ fn run_words<R, S, O, E>(
     input: &mut S,
     out: &mut O,
     err: &mut E,
-) -> Result<u8, AllocError>
+) -> Result<Ending, AllocError>
 where
     R: Files<File = File> + Env + Clock + AllocGlobal + Copy + Drop,
     S: Source,
     O: Sink,
     E: Sink,
     requires least { 1 ≤ processors }
-    requires most { processors ≤ 1024 }
-    ensures words { IfOk result (λ n. RunsWords (map string_bytes words.now) processors
-        (PutsWhole n (O.told out.old) (E.told err.old × (Rose (E.faults err.old) (E.faults err.new) → ⊥)) (O.written out.old) (O.written out.new)
-        (E.written err.old) (E.written err.new)) n) }
-    ensures status { IfOk result (λ n. IsStatus n) }
-    ensures nothing { IfOk result (λ n. IsSilent n → O.told out.old → O.written out.new ≡ O.written out.old) }
-    ensures write_fault { IfOk result (λ n. n ≡ 6 → Rose (O.faults out.old) (O.faults out.new)) }
-    ensures usage_text { IfOk result (λ n. n ≡ 2 → E.told err.old → (Rose (E.faults err.old) (E.faults err.new) → ⊥)
-        → E.written err.new ≡ E.written err.old ++ text_of_status n) }
-    ensures text { IfOk result (λ n. IsSilent n ⊎ (n ≡ 6) → E.told err.old → (Rose (E.faults err.old) (E.faults err.new) → ⊥)
-        → (said : List ℕ) × (E.written err.new ≡ E.written err.old ++ (said ++ text_of_status n))) }
+    requires most { processors ≤ MOST_PROCESSORS }
+    ensures words { IfOk result (λ r. RunsWords (map string_bytes words.now) processors r.token
+        (PutsWhole r.status (O.told out.old) (E.told err.old × (Rose (E.faults err.old) (E.faults err.new) → ⊥)) (O.written out.old) (O.written out.new)
+        (E.written err.old) (E.written err.new)) r.status) }
+    ensures status { IfOk result (λ r. IsStatus r.status) }
+    ensures nothing { IfOk result (λ r. IsSilent r.status → O.told out.old → O.written out.new ≡ O.written out.old) }
+    ensures write_fault { IfOk result (λ r. r.status ≡ 6 → Rose (O.faults out.old) (O.faults out.new)) }
+    ensures usage_text { IfOk result (λ r. r.status ≡ 2 → E.told err.old → (Rose (E.faults err.old) (E.faults err.new) → ⊥)
+        → E.written err.new ≡ E.written err.old ++ text_of_status r.status) }
+    ensures text { IfOk result (λ r. IsSilent r.status ⊎ (r.status ≡ 6) → E.told err.old → (Rose (E.faults err.old) (E.faults err.new) → ⊥)
+        → (said : List ℕ) × (E.written err.new ≡ E.written err.old ++ (said ++ text_of_status r.status))) }
     ensures not_run { IfErr result (λ e. (out.new ≡ out.old) × (err.new ≡ err.old)) }
     ensures out_faults { O.faults out.old ≤ O.faults out.new }
     ensures err_faults { E.faults err.old ≤ E.faults err.new }
@@ -132,20 +190,7 @@ where
     let given = first_token(&rt, words)?;
     let own = own_words(words, given.is_some());
     let token = token_of(&rt, given)?;
-    let twin = token.copy()?;
-    let mut lib = Lang::new(rt.alloc());
-    let mut folder = RealFolder::new(rt, twin);
-    let mut host = RealHost::new(rt, processors, token);
-    Ok(run(
-        rt.alloc(),
-        own,
-        &mut lib,
-        &mut folder,
-        input,
-        out,
-        err,
-        &mut host,
-    ))
+    run_as(rt, processors, token, own, input, out, err)
 }
 
 /// Runs the program's own words. Answers the exit status.
@@ -156,7 +201,7 @@ where
     O: Sink,
     E: Sink,
     requires least { 1 ≤ processors }
-    requires most { processors ≤ 1024 }
+    requires most { processors ≤ MOST_PROCESSORS }
     ensures status { IsStatus result }
     ensures nothing { IsSilent result → O.told out.old → O.written out.new ≡ O.written out.old }
     ensures write_fault { result ≡ 6 → Rose (O.faults out.old) (O.faults out.new) }
@@ -169,7 +214,7 @@ where
 {
     let fault = match words_of(&rt) {
         Ok(words) => match run_words(rt, processors, words.as_slice(), input, out, err) {
-            Ok(status) => return status,
+            Ok(ending) => return ending.status,
             Err(_) => StartFault::Memory,
         },
         Err(fault) => fault,
