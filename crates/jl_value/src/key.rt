@@ -1,6 +1,7 @@
 // Arguments, and the digest that names them.
-ghost use Rattle.std.specs.Prelude.{◌≡◌, IfOk, OnOk, MatchResult, string_bytes};
+ghost use Rattle.std.specs.Prelude.{◌≡◌, IfOk, OnOk, MatchResult};
 ghost use Rattle.hex.specs.Hex.{encode_lower};
+ghost use Rattle.md5.specs.Md5.{md5};
 ghost use Rattle.jl_value.specs.Tree.{members_of};
 ghost use Rattle.jl_value.specs.Form.{tree_of};
 ghost use Rattle.jl_value.specs.Key.{args_tree, key_of};
@@ -84,23 +85,23 @@ pub fn digest(alloc: Global, args: &Args) -> Result<Key, AllocError>
     ensures proper { OnOk result (IsProper (args_tree args.now)) }
 {
     let text = canonical_table(alloc, args.value())?;
-    let mut hasher = Md5::new();
-    hasher.update(text.as_str().as_bytes());
-    Ok(Key(hasher.finalize()))
+    Ok(Key::of_text(text.as_str()))
 }
 
 impl Key {
+    /// The key of arguments whose canonical text this is.
+    pub fn of_text(text: &str) -> Key
+        ensures { result.0 ≡ md5 text.now }
+    {
+        let mut hasher = Md5::new();
+        hasher.update(text.as_bytes());
+        Key(hasher.finalize())
+    }
+
     /// The hexadecimal digits of the key, in lower case.
     pub fn hex(&self, out: &mut [u8; 32])
         ensures { out.new ≡ encode_lower self.now.0 }
     {
         drop(hex::encode_to_slice(self.0.as_slice(), out));
-    }
-
-    /// The same digits as a text of its own.
-    pub fn to_hex(&self, alloc: Global) -> Result<String, AllocError>
-        ensures { IfOk result (λ t. string_bytes t ≡ encode_lower self.now.0) }
-    {
-        hex::encode(alloc, self.0.as_slice())
     }
 }

@@ -220,6 +220,12 @@ impl Table {
         self.inner.as_slice()
     }
 
+    pub fn into_vec(self) -> Vec<(Text, Value)>
+        ensures { entries_of result.items ≡ self }
+    {
+        self.inner
+    }
+
     #[cycle(copy)]
     pub fn copy(&self, alloc: Global) -> Result<Table, AllocError>
         ensures { IfOk result (λ t. t ≡ self.now) }
