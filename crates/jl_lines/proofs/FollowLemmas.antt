@@ -1,12 +1,12 @@
 -- The lines of bytes, by the first of them.
-use Rattle.std.proofs.Common.{◌≡◌, ℕ, ◌+◌, ◌-◌, ◌^◌, ◌<◌, ◌≤◌, ◌⊎◌, inl, inr, List, [], ◌∷◌, ◌++◌, Bool, true, false, ◌||◌, cond, nat_eq, nat_lt, length, take, drop, sym, ◌∙◌, ap, subst, refl, arith, length-append, true≢false}
+use Rattle.std.proofs.Common.{◌≡◌, ℕ, ◌<◌, ◌≤◌, inl, inr, List, [], ◌∷◌, ◌++◌, Bool, true, false, ◌||◌, cond, nat_lt, length, sym, ◌∙◌, ap, refl, arith, length-append, true≢false}
 use Rattle.std.proofs.lemmas.List.{append_assoc, append-nil}
 use Rattle.std.proofs.lemmas.Bool.Decides.{Decides-ltb, leb_tells}
+use Rattle.jl_streams.specs.Views.{SourceView}
 use Rattle.jl_lines.specs.declared.reader.NextLine.{NextLine}
 use Rattle.jl_lines.specs.declared.reader.NextLine.TheVariants as next_line
 use Rattle.jl_lines.specs.Lines.{is_newline, has_newline, first_line, behind_line, body_of, put_before, lines_of}
-use Rattle.jl_lines.specs.Steps.{ReaderView, waiting, is_long, Passes, Keeps, IsWhole, Answers, NextStep, LeftIs, Follows}
-use Rattle.jl_lines.proofs.LineLemmas.{first_line-append, behind_line-append, has_newline-append, first_line_all, body_of_all, behind_line_all, none_first}
+use Rattle.jl_lines.specs.Steps.{ReaderView, waiting, is_long, IsWhole, Answers, NextStep, LeftIs, Follows}
 use Rattle.jl_lines.proofs.StepLemmas.{of_or}
 
 -- bytes that aren't none have a first line
@@ -46,8 +46,8 @@ within_of m n e = elim (leb_tells n m) [
 ]
 
 -- a step's answer is that of the lines ahead, where the source tells
-pub step_follows : (old new : ReaderView) (left left' : List ℕ) (answer : NextLine) (Told : Type 0) → Told → NextStep Told old new left left' answer → Follows old answer (waiting old ++ left) (waiting new ++ left')
-step_follows old new left left' answer Told t s = go answer (s.left_is t) s.answer_is
+pub step_follows : (old new : ReaderView) (x y : SourceView) (answer : NextLine) → x.told → NextStep old new x y answer → Follows old answer (waiting old ++ x.left) (waiting new ++ y.left)
+step_follows old new x y answer t s = go answer (s.left_is t) s.answer_is
   where
     bytes : List ℕ
     bytes = waiting old ++ s.got
@@ -55,23 +55,23 @@ step_follows old new left left' answer Told t s = go answer (s.left_is t) s.answ
     le_by : {m n k : ℕ} → m ≡ n → n ≤ k → m ≤ k
     le_by e h = omega (arith, e, h)
 
-    ahead : left ≡ s.got ++ left' → waiting old ++ left ≡ (waiting old ++ s.got) ++ left'
-    ahead e = ap (λ l. waiting old ++ l) e ∙ sym (append_assoc (waiting old) s.got left')
+    ahead : x.left ≡ s.got ++ y.left → waiting old ++ x.left ≡ (waiting old ++ s.got) ++ y.left
+    ahead e = ap (λ l. waiting old ++ l) e ∙ sym (append_assoc (waiting old) s.got y.left)
 
-    go : (answer : NextLine) → LeftIs answer s.got left left' → Answers old new (waiting old ++ s.got) (Told → left' ≡ []) answer → Follows old answer (waiting old ++ left) (waiting new ++ left')
+    go : (answer : NextLine) → LeftIs answer s.got x y → Answers old new (waiting old ++ s.got) (x.told → y.left ≡ []) answer → Follows old answer (waiting old ++ x.left) (waiting new ++ y.left)
     go (next_line.Line number body) e h =
         let all = ahead e in
-        let w = whole_first (waiting old ++ s.got) left' (Told → left' ≡ []) (λ f. f t) h.4 in (
-          lines_first (waiting old ++ left) (omega (arith, ap length all, length-append (waiting old ++ s.got) left', h.2)) ∙ ap (λ l. first_line (waiting old ++ left) ∷ lines_of l) (ap behind_line all ∙ w.1 ∙ ap (λ l. l ++ left') (sym h.0.waiting_is)),
+        let w = whole_first (waiting old ++ s.got) y.left (x.told → y.left ≡ []) (λ f. f t) h.4 in (
+          lines_first (waiting old ++ x.left) (omega (arith, ap length all, length-append (waiting old ++ s.got) y.left, h.2)) ∙ ap (λ l. first_line (waiting old ++ x.left) ∷ lines_of l) (ap behind_line all ∙ w.1 ∙ ap (λ l. l ++ y.left) (sym h.0.waiting_is)),
           h.3 ∙ sym (ap body_of all ∙ w.2),
           le_by (ap length (ap first_line all ∙ w.0)) (within_of old.limit (length (first_line (waiting old ++ s.got))) (of_or _ _ h.1).1),
         )
     go (next_line.TooLong number) e h = λ short.
         let all = ahead e in
-        let w = whole_first (waiting old ++ s.got) left' (Told → left' ≡ []) (λ f. f t) h.2 in
+        let w = whole_first (waiting old ++ s.got) y.left (x.told → y.left ≡ []) (λ f. f t) h.2 in
         let over : old.limit < length (first_line (waiting old ++ s.got)) = over_of old.long old.limit (length (first_line (waiting old ++ s.got))) h.1 short in
-        let first_is : length (first_line (waiting old ++ left)) ≡ length (first_line (waiting old ++ s.got)) = ap length (ap first_line all ∙ w.0) in (
-          lines_first (waiting old ++ left) (some (waiting old ++ left) (omega (arith, first_is, over))) ∙ ap (λ l. first_line (waiting old ++ left) ∷ lines_of l) (ap behind_line all ∙ w.1 ∙ ap (λ l. l ++ left') (sym h.0.waiting_is)),
+        let first_is : length (first_line (waiting old ++ x.left)) ≡ length (first_line (waiting old ++ s.got)) = ap length (ap first_line all ∙ w.0) in (
+          lines_first (waiting old ++ x.left) (some (waiting old ++ x.left) (omega (arith, first_is, over))) ∙ ap (λ l. first_line (waiting old ++ x.left) ∷ lines_of l) (ap behind_line all ∙ w.1 ∙ ap (λ l. l ++ y.left) (sym h.0.waiting_is)),
           omega (arith, first_is, over),
         )
       where

@@ -1,10 +1,10 @@
 -- Bytes before and behind the first newline.
-use Rattle.std.proofs.Common.{◌≡◌, ℕ, suc, ◌⊎◌, inl, inr, ◌+◌, ◌-◌, ◌<◌, ◌≤◌, List, [], ◌∷◌, ◌++◌, Bool, true, false, ◌||◌, not, cond, nat_eq, nat_lt, length, take, drop, sym, ◌∙◌, ap, subst, refl, arith, length-append, length-take, length-drop, true≢false, Option, None, Some}
-use Rattle.std.proofs.lemmas.List.{append_assoc, append-nil, drop-take, drop-drop}
-use Rattle.std.specs.List.{list_any, prefix_len, position_or_len, position}
+use Rattle.std.proofs.Common.{◌≡◌, ℕ, suc, inl, inr, ◌+◌, ◌-◌, ◌<◌, ◌≤◌, List, [], ◌∷◌, ◌++◌, true, false, ◌||◌, not, cond, nat_lt, length, take, drop, sym, ◌∙◌, ap, subst, refl, arith, length-take, true≢false, Option, None, Some}
+use Rattle.std.proofs.lemmas.List.{append-nil, drop-take, drop-drop}
+use Rattle.std.specs.List.{position_or_len, position}
 use Rattle.std.proofs.lemmas.List.Folds.{list_any-append}
 use Rattle.std.proofs.lemmas.Bool.Decides.{Decides-ltb, leb_tells}
-use Rattle.jl_lines.specs.Lines.{is_newline, has_newline, first_line, behind_line, body_of, put_before, lines_of}
+use Rattle.jl_lines.specs.Lines.{is_newline, has_newline, first_line, behind_line, body_of}
 use Rattle.jl_lines.specs.Steps.{EndsAt}
 
 -- what is left of a part after its front is passed over

@@ -1,12 +1,13 @@
 -- What a reader answers at one look at its bytes.
-use Rattle.std.proofs.Common.{◌≡◌, ℕ, ◌+◌, ◌-◌, ◌^◌, ◌<◌, ◌≤◌, ◌⊎◌, inl, inr, List, [], ◌∷◌, ◌++◌, Bool, true, false, ◌||◌, cond, nat_lt, length, take, drop, sym, ◌∙◌, ap, subst, refl, arith, length-append, length-take, length-drop, true≢false}
-use Rattle.std.proofs.lemmas.List.{append_assoc, append-nil}
-use Rattle.std.proofs.lemmas.Bool.Decides.{Decides-ltb}
+use Rattle.std.proofs.Common.{◌≡◌, ℕ, ◌+◌, ◌-◌, ◌<◌, ◌≤◌, inl, inr, List, [], ◌++◌, Bool, true, false, ◌||◌, cond, nat_lt, length, take, drop, sym, ◌∙◌, ap, subst, refl, arith, length-append, length-take, true≢false}
+use Rattle.std.proofs.lemmas.List.{append-nil}
+use Rattle.jl_text.specs.declared.limits.TheConstants.{MOST_INPUT_BYTES}
+use Rattle.jl_streams.specs.Views.{SourceView}
 use Rattle.jl_lines.specs.declared.reader.NextLine.{NextLine}
 use Rattle.jl_lines.specs.declared.reader.NextLine.TheVariants as next_line
 use Rattle.jl_lines.specs.Lines.{has_newline, first_line, behind_line, body_of}
-use Rattle.jl_lines.specs.Steps.{ReaderView, waiting, is_long, is_over, Passes, Keeps, IsWhole, Answers, IsSettled, Settles, Looks, EndsAt, Stands, Goes, Advances, Gets, NextStep, LeftIs}
-use Rattle.jl_lines.proofs.LineLemmas.{first_line-append, behind_line-append, body_of-append, has_newline-append, first_line_all, body_of_all, behind_line_all}
+use Rattle.jl_lines.specs.Steps.{ReaderView, waiting, is_long, is_over, IsWhole, Answers, IsSettled, Settles, Looks, EndsAt, NextStep, LeftIs}
+use Rattle.jl_lines.proofs.LineLemmas.{first_line-append, behind_line-append, body_of-append, has_newline-append, first_line_all}
 
 -- of two tests of which neither passes
 pub first_false : (a b : Bool) → (a || b) ≡ false → a ≡ false
@@ -37,7 +38,7 @@ front_ends v size ends none = record {
 
 -- the line at the front was too long
 pub passes_long : (old new : ReaderView) (size number : ℕ) → EndsAt old.rest size → has_newline old.front ≡ false → is_over old size ≡ true → number ≡ old.lines + 1
-    → new ≡ record { limit = old.limit; taken = old.taken; lines = number; long = false; front = []; rest = drop size old.rest } → old.taken ≤ 2 ^ 40 → Settles ⊥ old new (next_line.TooLong number)
+    → new ≡ record { limit = old.limit; taken = old.taken; lines = number; long = false; front = []; rest = drop size old.rest } → old.taken ≤ MOST_INPUT_BYTES → Settles ⊥ old new (next_line.TooLong number)
 passes_long old new size number ends none over is new_is most =
     let f = front_ends old size ends none in
     subst (λ v. Settles ⊥ old v (next_line.TooLong number)) (sym new_is) record {
@@ -50,7 +51,7 @@ passes_long old new size number ends none over is new_is most =
 
 -- the line at the front was taken
 pub takes_short : (old new : ReaderView) (size number : ℕ) (body : List ℕ) → EndsAt old.rest size → has_newline old.front ≡ false → is_over old size ≡ false → number ≡ old.lines + 1 → body ≡ old.front ++ take (size - 1) old.rest
-    → new ≡ record { limit = old.limit; taken = old.taken; lines = number; long = old.long; front = []; rest = drop size old.rest } → old.taken ≤ 2 ^ 40 → Settles ⊥ old new (next_line.Line number body)
+    → new ≡ record { limit = old.limit; taken = old.taken; lines = number; long = old.long; front = []; rest = drop size old.rest } → old.taken ≤ MOST_INPUT_BYTES → Settles ⊥ old new (next_line.Line number body)
 takes_short old new size number body ends none short is body_is new_is most =
     let f = front_ends old size ends none in
     subst (λ v. Settles ⊥ old v (next_line.Line number body)) (sym new_is) record {
@@ -62,7 +63,7 @@ takes_short old new size number body ends none short is body_is new_is most =
     }
 
 -- there was no memory to take the line at the front
-pub keeps_short : (old new : ReaderView) (size : ℕ) → EndsAt old.rest size → has_newline old.front ≡ false → is_over old size ≡ false → new ≡ old → old.taken ≤ 2 ^ 40 → Settles ⊥ old new next_line.NoMemory
+pub keeps_short : (old new : ReaderView) (size : ℕ) → EndsAt old.rest size → has_newline old.front ≡ false → is_over old size ≡ false → new ≡ old → old.taken ≤ MOST_INPUT_BYTES → Settles ⊥ old new next_line.NoMemory
 keeps_short old new size ends none short new_is most =
     let f = front_ends old size ends none in
     subst (λ v. Settles ⊥ old v next_line.NoMemory) (sym new_is) record {
@@ -128,21 +129,21 @@ answers_map E E' old new bytes next_line.TooMuch f a = a
 answers_map E E' old new bytes next_line.ReadFault f a = a
 answers_map E E' old new bytes next_line.NoMemory f a = a
 
-left_still : (answer : NextLine) (left left' : List ℕ) → IsSettled answer → left ≡ left' → LeftIs answer [] left left'
-left_still (next_line.Line number body) left left' k e = e
-left_still (next_line.TooLong number) left left' k e = e
-left_still next_line.End left left' k e = e
-left_still next_line.TooMuch left left' k e = absurd k
-left_still next_line.ReadFault left left' k e = absurd k
-left_still next_line.NoMemory left left' k e = e
+left_still : (answer : NextLine) (x y : SourceView) → IsSettled answer → x.left ≡ y.left → LeftIs answer [] x y
+left_still (next_line.Line number body) x y k e = e
+left_still (next_line.TooLong number) x y k e = e
+left_still next_line.End x y k e = e
+left_still next_line.TooMuch x y k e = absurd k
+left_still next_line.ReadFault x y k e = absurd k
+left_still next_line.NoMemory x y k e = e
 
 -- an answer without a read is a step that takes nothing
-pub settles_step : (Told E : Type 0) (old new : ReaderView) (left left' : List ℕ) (answer : NextLine) → Settles E old new answer → (Told → left ≡ left') → (E → Told → left' ≡ []) → NextStep Told old new left left' answer
-settles_step Told E old new left left' answer s same end = record {
+pub settles_step : (E : Type 0) (old new : ReaderView) (x y : SourceView) (answer : NextLine) → Settles E old new answer → (x.told → x.left ≡ y.left) → (E → x.told → y.left ≡ []) → NextStep old new x y answer
+settles_step E old new x y answer s same end = record {
   got = [];
   limit_is = s.limit_is;
   taken_is = s.taken_is ∙ omega arith;
   most = s.most;
-  left_is = λ t. left_still answer left left' s.kind (same t);
-  answer_is = subst (λ bytes. Answers old new bytes (Told → left' ≡ []) answer) (sym (append-nil (waiting old))) (answers_map E (Told → left' ≡ []) old new (waiting old) answer end s.answer_is);
+  left_is = λ t. left_still answer x y s.kind (same t);
+  answer_is = subst (λ bytes. Answers old new bytes (x.told → y.left ≡ []) answer) (sym (append-nil (waiting old))) (answers_map E (x.told → y.left ≡ []) old new (waiting old) answer end s.answer_is);
 }

@@ -1,12 +1,14 @@
 -- One step of a reader after another.
-use Rattle.std.proofs.Common.{◌≡◌, ℕ, ◌+◌, ◌-◌, ◌^◌, ◌<◌, ◌≤◌, ◌⊎◌, inl, inr, List, [], ◌∷◌, ◌++◌, Bool, true, false, ◌||◌, cond, nat_eq, nat_lt, length, take, drop, sym, ◌∙◌, ap, subst, refl, arith, length-append, true≢false}
+use Rattle.std.proofs.Common.{◌≡◌, ℕ, ◌+◌, ◌<◌, ◌≤◌, inl, inr, List, [], ◌∷◌, ◌++◌, Bool, true, false, ◌||◌, cond, nat_eq, nat_lt, length, drop, sym, ◌∙◌, ap, subst, refl, arith, length-append, true≢false}
 use Rattle.std.proofs.lemmas.List.{append_assoc, append-nil}
 use Rattle.std.proofs.lemmas.Bool.Decides.{Decides-ltb, eqb_tells}
+use Rattle.jl_text.specs.declared.limits.TheConstants.{MOST_INPUT_BYTES}
+use Rattle.jl_streams.specs.Views.{SourceView}
 use Rattle.jl_lines.specs.declared.reader.NextLine.{NextLine}
 use Rattle.jl_lines.specs.declared.reader.NextLine.TheVariants as next_line
 use Rattle.jl_lines.specs.Lines.{has_newline, first_line, behind_line, body_of}
 use Rattle.jl_lines.specs.Readers.{IsReader}
-use Rattle.jl_lines.specs.Steps.{ReaderView, waiting, is_long, Passes, Keeps, IsWhole, Answers, IsSettled, Settles, Looks, Stands, Goes, Advances, Gets, NextStep, LeftIs}
+use Rattle.jl_lines.specs.Steps.{ReaderView, waiting, is_long, Passes, Keeps, IsWhole, Answers, Settles, Looks, Stands, Goes, Advances, Gets, NextStep, LeftIs}
 use Rattle.jl_lines.proofs.LineLemmas.{first_line-append, behind_line-append, has_newline-append, first_line_all, body_of_all, behind_line_all}
 use Rattle.jl_lines.proofs.ReaderLemmas.{answers_map}
 
@@ -56,42 +58,42 @@ stays v r e = (none, long, record { lines_is = refl; long_is = sym long; waiting
     ] refl
 
 -- a read failed
-pub fault_step : (Told : Type 0) (old new : ReaderView) (left left' : List ℕ) → IsReader old → old.rest ≡ [] → new ≡ old → (Told → left' ≡ left) → NextStep Told old new left left' next_line.ReadFault
-fault_step Told old new left left' r e same still =
+pub fault_step : (old new : ReaderView) (x y : SourceView) → IsReader old → old.rest ≡ [] → new ≡ old → (x.told → y.left ≡ x.left) → NextStep old new x y next_line.ReadFault
+fault_step old new x y r e same still =
     let s = stays old r e in
-    subst (λ v. NextStep Told old v left left' next_line.ReadFault) (sym same) record {
+    subst (λ v. NextStep old v x y next_line.ReadFault) (sym same) record {
       got = [];
       limit_is = refl;
       taken_is = omega arith;
       most = r.most;
       left_is = λ t. sym (still t);
-      answer_is = subst (λ bytes. Answers old old bytes (Told → left' ≡ []) next_line.ReadFault) (sym (append-nil (waiting old))) (s.2, s.0);
+      answer_is = subst (λ bytes. Answers old old bytes (x.told → y.left ≡ []) next_line.ReadFault) (sym (append-nil (waiting old))) (s.2, s.0);
     }
 
 -- there was no memory to read into
-pub no_memory_step : (Told : Type 0) (old new : ReaderView) (left left' : List ℕ) → IsReader old → old.rest ≡ [] → new ≡ old → left' ≡ left → NextStep Told old new left left' next_line.NoMemory
-no_memory_step Told old new left left' r e same still =
+pub no_memory_step : (old new : ReaderView) (x y : SourceView) → IsReader old → old.rest ≡ [] → new ≡ old → y.left ≡ x.left → NextStep old new x y next_line.NoMemory
+no_memory_step old new x y r e same still =
     let s = stays old r e in
-    subst (λ v. NextStep Told old v left left' next_line.NoMemory) (sym same) record {
+    subst (λ v. NextStep old v x y next_line.NoMemory) (sym same) record {
       got = [];
       limit_is = refl;
       taken_is = omega arith;
       most = r.most;
       left_is = λ t. sym still;
-      answer_is = subst (λ bytes. Answers old old bytes (Told → left' ≡ []) next_line.NoMemory) (sym (append-nil (waiting old))) s.2;
+      answer_is = subst (λ bytes. Answers old old bytes (x.told → y.left ≡ []) next_line.NoMemory) (sym (append-nil (waiting old))) s.2;
     }
 
 -- a byte too many was there
-pub too_much_step : (Told : Type 0) (old new : ReaderView) (left left' : List ℕ) → IsReader old → old.rest ≡ [] → new ≡ old → old.taken ≡ 2 ^ 40 → (Told → (b : ℕ) × (left ≡ b ∷ left')) → NextStep Told old new left left' next_line.TooMuch
-too_much_step Told old new left left' r e same full more =
+pub too_much_step : (old new : ReaderView) (x y : SourceView) → IsReader old → old.rest ≡ [] → new ≡ old → old.taken ≡ MOST_INPUT_BYTES → (x.told → (b : ℕ) × (x.left ≡ b ∷ y.left)) → NextStep old new x y next_line.TooMuch
+too_much_step old new x y r e same full more =
     let s = stays old r e in
-    subst (λ v. NextStep Told old v left left' next_line.TooMuch) (sym same) record {
+    subst (λ v. NextStep old v x y next_line.TooMuch) (sym same) record {
       got = [];
       limit_is = refl;
       taken_is = omega arith;
       most = r.most;
       left_is = more;
-      answer_is = subst (λ bytes. Answers old old bytes (Told → left' ≡ []) next_line.TooMuch) (sym (append-nil (waiting old))) (s.2, s.0, full);
+      answer_is = subst (λ bytes. Answers old old bytes (x.told → y.left ≡ []) next_line.TooMuch) (sym (append-nil (waiting old))) (s.2, s.0, full);
     }
 
 -- one byte fewer is left
@@ -245,46 +247,46 @@ stands_answer a b c x y E answer s lines = go answer
     go next_line.ReadFault h = (keeps h.0, sym newline ∙ h.1)
     go next_line.NoMemory h = keeps h
 
-left_on : (answer : NextLine) (got got' left mid left' : List ℕ) → left ≡ got ++ mid → LeftIs answer got' mid left' → LeftIs answer (got ++ got') left left'
-left_on (next_line.Line number body) got got' left mid left' e f = e ∙ ap (λ l. got ++ l) f ∙ sym (append_assoc got got' left')
-left_on (next_line.TooLong number) got got' left mid left' e f = e ∙ ap (λ l. got ++ l) f ∙ sym (append_assoc got got' left')
-left_on next_line.End got got' left mid left' e f = e ∙ ap (λ l. got ++ l) f ∙ sym (append_assoc got got' left')
-left_on next_line.TooMuch got got' left mid left' e f = (f.0, e ∙ ap (λ l. got ++ l) f.1 ∙ sym (append_assoc got got' (f.0 ∷ left')))
-left_on next_line.ReadFault got got' left mid left' e f = e ∙ ap (λ l. got ++ l) f ∙ sym (append_assoc got got' left')
-left_on next_line.NoMemory got got' left mid left' e f = e ∙ ap (λ l. got ++ l) f ∙ sym (append_assoc got got' left')
+left_on : (answer : NextLine) (got got' : List ℕ) (x y z : SourceView) → x.left ≡ got ++ y.left → LeftIs answer got' y z → LeftIs answer (got ++ got') x z
+left_on (next_line.Line number body) got got' x y z e f = e ∙ ap (λ l. got ++ l) f ∙ sym (append_assoc got got' z.left)
+left_on (next_line.TooLong number) got got' x y z e f = e ∙ ap (λ l. got ++ l) f ∙ sym (append_assoc got got' z.left)
+left_on next_line.End got got' x y z e f = e ∙ ap (λ l. got ++ l) f ∙ sym (append_assoc got got' z.left)
+left_on next_line.TooMuch got got' x y z e f = (f.0, e ∙ ap (λ l. got ++ l) f.1 ∙ sym (append_assoc got got' (f.0 ∷ z.left)))
+left_on next_line.ReadFault got got' x y z e f = e ∙ ap (λ l. got ++ l) f ∙ sym (append_assoc got got' z.left)
+left_on next_line.NoMemory got got' x y z e f = e ∙ ap (λ l. got ++ l) f ∙ sym (append_assoc got got' z.left)
 
 -- an answer after bytes were taken
-pub goes_step : (Told Told' : Type 0) (a b c : ReaderView) (left mid left' : List ℕ) (answer : NextLine) → (Told → Told') → Goes Told a b left mid → NextStep Told' b c mid left' answer → NextStep Told a c left left' answer
-goes_step Told Told' a b c left mid left' answer told g s = record {
+pub goes_step : (a b c : ReaderView) (x y z : SourceView) (answer : NextLine) → (x.told → y.told) → Goes a b x y → NextStep b c y z answer → NextStep a c x z answer
+goes_step a b c x y z answer told g s = record {
   got = g.got ++ s.got;
   limit_is = s.limit_is ∙ g.limit_is;
   taken_is = omega (arith, s.taken_is, g.taken_is, length-append g.got s.got);
   most = s.most;
-  left_is = λ t. left_on answer g.got s.got left mid left' (g.left_is t) (s.left_is (told t));
+  left_is = λ t. left_on answer g.got s.got x y z (g.left_is t) (s.left_is (told t));
   answer_is =
       let stood = stands_more a b (waiting a ++ g.got) (waiting b) s.got g.stands in
-      subst (λ bytes. Answers a c bytes (Told → left' ≡ []) answer) (append_assoc (waiting a) g.got s.got)
-      (stands_answer a b c ((waiting a ++ g.got) ++ s.got) (waiting b ++ s.got) (Told → left' ≡ []) answer stood g.lines_is (ends_map answer s.answer_is));
+      subst (λ bytes. Answers a c bytes (x.told → z.left ≡ []) answer) (append_assoc (waiting a) g.got s.got)
+      (stands_answer a b c ((waiting a ++ g.got) ++ s.got) (waiting b ++ s.got) (x.told → z.left ≡ []) answer stood g.lines_is (ends_map answer s.answer_is));
 }
   where
-    ends_map : (answer : NextLine) → Answers b c (waiting b ++ s.got) (Told' → left' ≡ []) answer → Answers b c (waiting b ++ s.got) (Told → left' ≡ []) answer
-    ends_map answer h = answers_map (Told' → left' ≡ []) (Told → left' ≡ []) b c (waiting b ++ s.got) answer (λ f t. f (told t)) h
+    ends_map : (answer : NextLine) → Answers b c (waiting b ++ s.got) (y.told → z.left ≡ []) answer → Answers b c (waiting b ++ s.got) (x.told → z.left ≡ []) answer
+    ends_map answer h = answers_map (y.told → z.left ≡ []) (x.told → z.left ≡ []) b c (waiting b ++ s.got) answer (λ f t. f (told t)) h
 
 -- more bytes after bytes were taken
-pub goes_on : (Told Told' : Type 0) (a b c : ReaderView) (left mid left' : List ℕ) → (Told → Told') → Goes Told a b left mid → Goes Told' b c mid left' → Goes Told a c left left'
-goes_on Told Told' a b c left mid left' told g h = record {
+pub goes_on : (a b c : ReaderView) (x y z : SourceView) → (x.told → y.told) → Goes a b x y → Goes b c y z → Goes a c x z
+goes_on a b c x y z told g h = record {
   got = g.got ++ h.got;
   limit_is = h.limit_is ∙ g.limit_is;
   taken_is = omega (arith, h.taken_is, g.taken_is, length-append g.got h.got);
   lines_is = h.lines_is ∙ g.lines_is;
-  left_is = λ t. g.left_is t ∙ ap (λ l. g.got ++ l) (h.left_is (told t)) ∙ sym (append_assoc g.got h.got left');
+  left_is = λ t. g.left_is t ∙ ap (λ l. g.got ++ l) (h.left_is (told t)) ∙ sym (append_assoc g.got h.got z.left);
   stands = subst (λ here. Stands a c here (waiting c)) (append_assoc (waiting a) g.got h.got)
       (stands_trans a b c ((waiting a ++ g.got) ++ h.got) (waiting b ++ h.got) (waiting c) (stands_more a b (waiting a ++ g.got) (waiting b) h.got g.stands) h.stands);
 }
 
 -- nothing has happened yet
-pub goes_none : (Told : Type 0) (a b : ReaderView) (left left' : List ℕ) → b ≡ a → left ≡ left' → Goes Told a b left left'
-goes_none Told a b left left' same still = record {
+pub goes_none : (a b : ReaderView) (x y : SourceView) → b ≡ a → x.left ≡ y.left → Goes a b x y
+goes_none a b x y same still = record {
   got = [];
   limit_is = ap (λ v. v.limit) same;
   taken_is = ap (λ v. v.taken) same ∙ omega arith;
@@ -294,8 +296,8 @@ goes_none Told a b left left' same still = record {
 }
 
 -- all bytes were looked at
-pub looks_goes : (Told : Type 0) (a b : ReaderView) (left left' : List ℕ) → Looks a b → left ≡ left' → Goes Told a b left left'
-looks_goes Told a b left left' l still = record {
+pub looks_goes : (a b : ReaderView) (x y : SourceView) → Looks a b → x.left ≡ y.left → Goes a b x y
+looks_goes a b x y l still = record {
   got = [];
   limit_is = l.limit_is;
   taken_is = l.taken_is ∙ omega arith;
@@ -304,8 +306,8 @@ looks_goes Told a b left left' l still = record {
   stands = subst (λ here. Stands a b here (waiting b)) (sym (append-nil (waiting a))) (looks_stands a b l);
 }
 
-pub gets_goes : (Told : Type 0) (a b : ReaderView) (left left' : List ℕ) → a.rest ≡ [] → Gets Told a b left left' → Goes Told a b left left'
-gets_goes Told a b left left' none g = record {
+pub gets_goes : (a b : ReaderView) (x y : SourceView) → a.rest ≡ [] → Gets a b x y → Goes a b x y
+gets_goes a b x y none g = record {
   got = b.rest;
   limit_is = ap (λ v. v.limit) g.new_is;
   taken_is = ap (λ v. v.taken) g.new_is;
@@ -316,10 +318,10 @@ gets_goes Told a b left left' none g = record {
 }
 
 -- bytes were looked at, and then more were taken
-pub advances : (Told Told' : Type 0) (a b c : ReaderView) (left left' : List ℕ) → (Told → Told') → Looks a b → Gets Told' b c left left' → Advances Told a c left left'
-advances Told Told' a b c left left' told l g = record {
+pub advances : (a b c : ReaderView) (x y : SourceView) → Looks a b → Gets b c x y → Advances a c x y
+advances a b c x y l g = record {
   none = l.none;
   some = omega (arith, l.taken_is, ap (λ v. v.taken) g.new_is, g.some);
   most = g.most;
-  goes = goes_on Told Told' a b c left left left' told (looks_goes Told a b left left l refl) (gets_goes Told' b c left left' l.rest_is g);
+  goes = goes_on a b c x x y (λ told. told) (looks_goes a b x x l refl) (gets_goes b c x y l.rest_is g);
 }

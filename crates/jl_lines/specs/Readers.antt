@@ -1,5 +1,6 @@
 -- What each reader of lines is.
-use Rattle.std.specs.Prelude.{◌≡◌, ◌+◌, ◌^◌, ◌≤◌, [], true, false, cond, length}
+use Rattle.std.specs.Prelude.{◌≡◌, ◌+◌, ◌≤◌, [], true, false, cond, length}
+use Rattle.jl_text.specs.declared.limits.TheConstants.{MOST_INPUT_BYTES}
 use Rattle.jl_lines.specs.Lines.{has_newline}
 use Rattle.jl_lines.specs.Steps.{ReaderView}
 
@@ -9,4 +10,4 @@ pub record IsReader (v : ReaderView) : Type 0 where
   pub short : length v.front ≤ v.limit
   pub nothing : v.long ≡ true → v.front ≡ []
   pub counts : v.lines + cond v.long 1 0 + (length v.front + length v.rest) ≤ v.taken
-  pub most : v.taken ≤ 2 ^ 40
+  pub most : v.taken ≤ MOST_INPUT_BYTES

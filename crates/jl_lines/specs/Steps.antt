@@ -1,5 +1,7 @@
 -- What a reader of lines answers, and what it is afterwards.
-use Rattle.std.specs.Prelude.{◌≡◌, ℕ, ◌+◌, ◌-◌, ◌^◌, ◌<◌, ◌≤◌, ◌⊎◌, List, [], ◌∷◌, ◌++◌, Bool, true, false, ◌||◌, cond, nat_lt, length, take, drop}
+use Rattle.std.specs.Prelude.{◌≡◌, ℕ, ◌+◌, ◌-◌, ◌<◌, ◌≤◌, ◌⊎◌, List, [], ◌∷◌, ◌++◌, Bool, true, false, ◌||◌, cond, nat_lt, length, take, drop}
+use Rattle.jl_text.specs.declared.limits.TheConstants.{MOST_INPUT_BYTES}
+use Rattle.jl_streams.specs.Views.{SourceView}
 use Rattle.jl_lines.specs.declared.reader.NextLine.{NextLine}
 use Rattle.jl_lines.specs.declared.reader.NextLine.TheVariants as next_line
 use Rattle.jl_lines.specs.Lines.{has_newline, first_line, behind_line, body_of, lines_of}
@@ -44,27 +46,27 @@ abbrev pub Answers : ReaderView → ReaderView → List ℕ → Type 0 → NextL
 Answers old new bytes Ended (next_line.Line number body) = Passes old new bytes number × (is_long old bytes ≡ false) × (0 < length bytes) × (body ≡ body_of bytes) × IsWhole bytes Ended
 Answers old new bytes Ended (next_line.TooLong number) = Passes old new bytes number × (is_long old bytes ≡ true) × IsWhole bytes Ended
 Answers old new bytes Ended next_line.End = Keeps old new bytes × (old.long ≡ false) × (bytes ≡ []) × Ended
-Answers old new bytes Ended next_line.TooMuch = Keeps old new bytes × (has_newline bytes ≡ false) × (new.taken ≡ 2 ^ 40)
+Answers old new bytes Ended next_line.TooMuch = Keeps old new bytes × (has_newline bytes ≡ false) × (new.taken ≡ MOST_INPUT_BYTES)
 Answers old new bytes Ended next_line.ReadFault = Keeps old new bytes × (has_newline bytes ≡ false)
 Answers old new bytes Ended next_line.NoMemory = Keeps old new bytes
 
 -- where the source went: the bytes taken were left, and at `TooMuch` one more
-abbrev pub LeftIs : NextLine → List ℕ → List ℕ → List ℕ → Type 0
-LeftIs (next_line.Line number body) got left left' = left ≡ got ++ left'
-LeftIs (next_line.TooLong number) got left left' = left ≡ got ++ left'
-LeftIs next_line.End got left left' = left ≡ got ++ left'
-LeftIs next_line.TooMuch got left left' = (b : ℕ) × (left ≡ got ++ b ∷ left')
-LeftIs next_line.ReadFault got left left' = left ≡ got ++ left'
-LeftIs next_line.NoMemory got left left' = left ≡ got ++ left'
+abbrev pub LeftIs : NextLine → List ℕ → SourceView → SourceView → Type 0
+LeftIs (next_line.Line number body) got before after = before.left ≡ got ++ after.left
+LeftIs (next_line.TooLong number) got before after = before.left ≡ got ++ after.left
+LeftIs next_line.End got before after = before.left ≡ got ++ after.left
+LeftIs next_line.TooMuch got before after = (b : ℕ) × (before.left ≡ got ++ b ∷ after.left)
+LeftIs next_line.ReadFault got before after = before.left ≡ got ++ after.left
+LeftIs next_line.NoMemory got before after = before.left ≡ got ++ after.left
 
 -- one call: the bytes that it took, and what it answers over them
-pub record NextStep (Told : Type 0) (old new : ReaderView) (left left' : List ℕ) (answer : NextLine) : Type 0 where
+pub record NextStep (old new : ReaderView) (before after : SourceView) (answer : NextLine) : Type 0 where
   pub got : List ℕ
   pub limit_is : new.limit ≡ old.limit
   pub taken_is : new.taken ≡ old.taken + length got
-  pub most : new.taken ≤ 2 ^ 40
-  pub left_is : Told → LeftIs answer got left left'
-  pub answer_is : Answers old new (waiting old ++ got) (Told → left' ≡ []) answer
+  pub most : new.taken ≤ MOST_INPUT_BYTES
+  pub left_is : before.told → LeftIs answer got before after
+  pub answer_is : Answers old new (waiting old ++ got) (before.told → after.left ≡ []) answer
 
 -- where the bytes that are ahead went: the first of their lines was answered, or none; `ahead` are the bytes that wait and those that the source has left
 abbrev pub Follows : ReaderView → NextLine → List ℕ → List ℕ → Type 0
@@ -89,7 +91,7 @@ pub record Settles (Ended : Type 0) (old new : ReaderView) (answer : NextLine) :
   pub kind : IsSettled answer
   pub limit_is : new.limit ≡ old.limit
   pub taken_is : new.taken ≡ old.taken
-  pub most : new.taken ≤ 2 ^ 40
+  pub most : new.taken ≤ MOST_INPUT_BYTES
   pub answer_is : Answers old new (waiting old) Ended answer
 
 -- whatever bytes come behind, `new` over the bytes `there` answers what `old` answers over the bytes `here`
@@ -100,20 +102,20 @@ pub record Stands (old new : ReaderView) (here there : List ℕ) : Type 0 where
   pub same : (more : List ℕ) → is_long old (here ++ more) ≡ false → there ≡ here
 
 -- bytes were taken, and no line is passed yet
-pub record Goes (Told : Type 0) (old new : ReaderView) (left left' : List ℕ) : Type 0 where
+pub record Goes (old new : ReaderView) (before after : SourceView) : Type 0 where
   pub got : List ℕ
   pub limit_is : new.limit ≡ old.limit
   pub taken_is : new.taken ≡ old.taken + length got
   pub lines_is : new.lines ≡ old.lines
-  pub left_is : Told → left ≡ got ++ left'
+  pub left_is : before.told → before.left ≡ got ++ after.left
   pub stands : Stands old new (waiting old ++ got) (waiting new)
 
 -- no whole line waited, and at least one byte was taken
-pub record Advances (Told : Type 0) (old new : ReaderView) (left left' : List ℕ) : Type 0 where
+pub record Advances (old new : ReaderView) (before after : SourceView) : Type 0 where
   pub none : has_newline (waiting old) ≡ false
   pub some : old.taken < new.taken
-  pub most : new.taken ≤ 2 ^ 40
-  pub goes : Goes Told old new left left'
+  pub most : new.taken ≤ MOST_INPUT_BYTES
+  pub goes : Goes old new before after
 
 -- the bytes that wait are no whole line, and all of them were looked at
 pub record Looks (old new : ReaderView) : Type 0 where
@@ -124,11 +126,11 @@ pub record Looks (old new : ReaderView) : Type 0 where
   pub rest_is : new.rest ≡ []
 
 -- at least one byte was taken, behind the others, where none was left to look at
-pub record Gets (Told : Type 0) (old new : ReaderView) (left left' : List ℕ) : Type 0 where
+pub record Gets (old new : ReaderView) (before after : SourceView) : Type 0 where
   pub some : 0 < length new.rest
-  pub most : new.taken ≤ 2 ^ 40
+  pub most : new.taken ≤ MOST_INPUT_BYTES
   pub new_is : new ≡ record old { taken = old.taken + length new.rest; rest = new.rest }
-  pub left_is : Told → left ≡ new.rest ++ left'
+  pub left_is : before.told → before.left ≡ new.rest ++ after.left
 
 -- the first line of the bytes ends with a newline, and with it has this size
 pub record EndsAt (bytes : List ℕ) (size : ℕ) : Type 0 where

@@ -1,10 +1,11 @@
 // Bytes that were read at once, and are used one part after another.
 ghost use Rattle.std.specs.Prelude.{◌≡◌, ◌<◌, ◌≤◌, [], ◌++◌, length, take, drop, vec_len};
 ghost use Rattle.std.specs.Bool.{MatchBool};
-ghost use Rattle.jl_text.specs.Counts.{Faults};
+ghost use Rattle.jl_streams.specs.Views.{SourceAnswers};
 ghost use Rattle.jl_lines.specs.Blocks.{Fills, GivesFront};
 
 use jl_streams::{Got, Source};
+use jl_text::limits::PIECE_BYTES;
 use std::alloc::Global;
 use std::marker::Model;
 
@@ -16,9 +17,6 @@ pub enum Filled {
     Failed,
     NoMemory,
 }
-
-// The longest read.
-const BLOCK: usize = 65536;
 
 #[derive(Drop)]
 pub struct Block {
@@ -41,9 +39,8 @@ impl Model for Block {
 fn read_front<S: Source>(source: &mut S, buf: &mut [u8], most: u64) -> Got
     requires some { 0 < most }
     requires room { 0 < length buf.old }
-    ensures front { GivesFront result most buf.new (S.told source.old) (S.left source.old) (S.left source.new) }
-    ensures told { S.told source.old → S.told source.new }
-    ensures faults { Faults (S.faults source.old) (S.faults source.new) (result ≡ Got.Failed) }
+    ensures front { GivesFront result most buf.new (S.view source.old) (S.view source.new) }
+    ensures frame { SourceAnswers (result ≡ Got.Failed) (S.view source.old) (S.view source.new) }
 {
     let size = if most < buf.len() as u64 {
         most as usize
@@ -89,7 +86,7 @@ impl Block {
         if !self.bytes.is_empty() {
             return true;
         }
-        match vec![in alloc; 0u8; BLOCK] {
+        match vec![in alloc; 0u8; PIECE_BYTES] {
             Ok(bytes) => {
                 self.bytes = bytes;
                 true
@@ -102,9 +99,8 @@ impl Block {
     fn read<S: Source>(&mut self, source: &mut S, most: u64) -> Filled
         requires some { 0 < most }
         requires empty { self.old ≡ [] }
-        ensures fills { Fills result most self.new (S.told source.old) (S.left source.old) (S.left source.new) }
-        ensures told { S.told source.old → S.told source.new }
-        ensures faults { Faults (S.faults source.old) (S.faults source.new) (result ≡ Filled.Failed) }
+        ensures fills { Fills result most self.new (S.view source.old) (S.view source.new) }
+        ensures frame { SourceAnswers (result ≡ Filled.Failed) (S.view source.old) (S.view source.new) }
     {
         if self.bytes.is_empty() {
             return Filled::NoMemory;
@@ -124,9 +120,8 @@ impl Block {
     pub fn fill<S: Source>(&mut self, alloc: Global, source: &mut S, most: u64) -> Filled
         requires some { 0 < most }
         requires empty { self.old ≡ [] }
-        ensures fills { Fills result most self.new (S.told source.old) (S.left source.old) (S.left source.new) }
-        ensures told { S.told source.old → S.told source.new }
-        ensures faults { Faults (S.faults source.old) (S.faults source.new) (result ≡ Filled.Failed) }
+        ensures fills { Fills result most self.new (S.view source.old) (S.view source.new) }
+        ensures frame { SourceAnswers (result ≡ Filled.Failed) (S.view source.old) (S.view source.new) }
     {
         if !self.make_room(alloc) {
             return Filled::NoMemory;

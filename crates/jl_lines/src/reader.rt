@@ -1,6 +1,7 @@
 // Reads lines.
-ghost use Rattle.std.specs.Prelude.{◌≡◌, ◌+◌, ◌^◌, ◌<◌, ◌≤◌, ◌++◌, [], true, false, ⊤, Some, length, nat_lt, ◌||◌, position, MatchOption, MatchBool};
-ghost use Rattle.jl_text.specs.Counts.{Faults};
+ghost use Rattle.std.specs.Prelude.{◌≡◌, ◌+◌, ◌<◌, ◌≤◌, ◌++◌, [], true, false, ⊤, Some, length, nat_lt, ◌||◌, position, MatchOption, MatchBool};
+ghost use Rattle.jl_text.specs.declared.limits.TheConstants.{MOST_INPUT_BYTES};
+ghost use Rattle.jl_streams.specs.Views.{SourceAnswers};
 ghost use Rattle.jl_lines.specs.Lines.{has_newline, is_newline};
 ghost use Rattle.jl_lines.specs.Readers.{IsReader};
 ghost use Rattle.jl_lines.specs.Steps.{NextStep, Follows, Looks, Gets, EndsAt, Advances, Settles, is_over, waiting};
@@ -8,6 +9,7 @@ ghost use Rattle.jl_lines.specs.Steps.{NextStep, Follows, Looks, Gets, EndsAt, A
 use crate::block::{Block, Filled};
 use jl_streams::{Got, Source};
 use jl_text::Bytes;
+use jl_text::limits::MOST_INPUT_BYTES;
 use std::alloc::Global;
 use std::marker::Model;
 use std::mem;
@@ -27,9 +29,6 @@ pub enum NextLine {
     ReadFault,
     NoMemory,
 }
-
-// How many bytes a reader takes at most: 2^40.
-const MOST: u64 = 1 << 40;
 
 /// Reads the lines of a source, in whatever pieces its bytes come.
 #[derive(Drop)]
@@ -203,11 +202,10 @@ impl LineReader {
     // Looks whether the source goes on, where no more bytes are taken.
     fn probe<S: Source>(&mut self, alloc: Global, source: &mut S) -> NextLine
         requires rest { self.old.rest ≡ [] }
-        requires most { self.old.taken ≡ 2 ^ 40 }
+        requires most { self.old.taken ≡ MOST_INPUT_BYTES }
         requires reader { IsReader self.old }
-        ensures step { NextStep (S.told source.old) self.old self.new (S.left source.old) (S.left source.new) result }
-        ensures told { S.told source.old → S.told source.new }
-        ensures faults { Faults (S.faults source.old) (S.faults source.new) (result ≡ NextLine.ReadFault) }
+        ensures step { NextStep self.old self.new (S.view source.old) (S.view source.new) result }
+        ensures frame { SourceAnswers (result ≡ NextLine.ReadFault) (S.view source.old) (S.view source.new) }
     {
         let mut byte = [0u8; 1];
         match source.read(&mut byte) {
@@ -220,12 +218,14 @@ impl LineReader {
     // Takes more bytes.
     fn take_bytes<S: Source>(&mut self, alloc: Global, source: &mut S) -> Option<NextLine>
         requires rest { self.old.rest ≡ [] }
-        requires room { self.old.taken < 2 ^ 40 }
-        ensures cases { MatchOption result (Gets (S.told source.old) self.old self.new (S.left source.old) (S.left source.new)) (λ answer. NextStep (S.told source.old) self.old self.new (S.left source.old) (S.left source.new) answer) }
-        ensures told { S.told source.old → S.told source.new }
-        ensures faults { Faults (S.faults source.old) (S.faults source.new) (result ≡ Some NextLine.ReadFault) }
+        requires room { self.old.taken < MOST_INPUT_BYTES }
+        ensures cases { MatchOption result (Gets self.old self.new (S.view source.old) (S.view source.new)) (λ answer. NextStep self.old self.new (S.view source.old) (S.view source.new) answer) }
+        ensures frame { SourceAnswers (result ≡ Some NextLine.ReadFault) (S.view source.old) (S.view source.new) }
     {
-        match self.block.fill(alloc, source, MOST - self.taken) {
+        match self
+            .block
+            .fill(alloc, source, MOST_INPUT_BYTES - self.taken)
+        {
             Filled::Bytes => {
                 self.taken += self.block.rest().len() as u64;
                 None
@@ -239,11 +239,10 @@ impl LineReader {
     // Takes more bytes, if there may be more.
     fn go_on<S: Source>(&mut self, alloc: Global, source: &mut S) -> Option<NextLine>
         requires { self.old.rest ≡ [] }
-        ensures cases { MatchOption result (Gets (S.told source.old) self.old self.new (S.left source.old) (S.left source.new)) (λ answer. NextStep (S.told source.old) self.old self.new (S.left source.old) (S.left source.new) answer) }
-        ensures told { S.told source.old → S.told source.new }
-        ensures faults { Faults (S.faults source.old) (S.faults source.new) (result ≡ Some NextLine.ReadFault) }
+        ensures cases { MatchOption result (Gets self.old self.new (S.view source.old) (S.view source.new)) (λ answer. NextStep self.old self.new (S.view source.old) (S.view source.new) answer) }
+        ensures frame { SourceAnswers (result ≡ Some NextLine.ReadFault) (S.view source.old) (S.view source.new) }
     {
-        if self.taken == MOST {
+        if self.taken == MOST_INPUT_BYTES {
             return Some(self.probe(alloc, source));
         }
         self.take_bytes(alloc, source)
@@ -251,10 +250,9 @@ impl LineReader {
 
     // Passes the line at the front, or takes more bytes.
     fn advance<S: Source>(&mut self, alloc: Global, source: &mut S) -> Option<NextLine>
-        ensures cases { MatchOption result (Advances (S.told source.old) self.old self.new (S.left source.old) (S.left source.new)) (λ answer. NextStep (S.told source.old) self.old self.new (S.left source.old) (S.left source.new) answer) }
+        ensures cases { MatchOption result (Advances self.old self.new (S.view source.old) (S.view source.new)) (λ answer. NextStep self.old self.new (S.view source.old) (S.view source.new) answer) }
         ensures still { has_newline (waiting self.old) ≡ true → source.new ≡ source.old }
-        ensures told { S.told source.old → S.told source.new }
-        ensures faults { Faults (S.faults source.old) (S.faults source.new) (result ≡ Some NextLine.ReadFault) }
+        ensures frame { SourceAnswers (result ≡ Some NextLine.ReadFault) (S.view source.old) (S.view source.new) }
     {
         match self.take_line(alloc) {
             Some(answer) => Some(answer),
@@ -264,11 +262,10 @@ impl LineReader {
 
     /// The next line. The source is read only where no whole line waits.
     pub fn next<S: Source>(&mut self, alloc: Global, source: &mut S) -> NextLine
-        ensures step { NextStep (S.told source.old) self.old self.new (S.left source.old) (S.left source.new) result }
-        ensures lines { S.told source.old → Follows self.old result (waiting self.old ++ S.left source.old) (waiting self.new ++ S.left source.new) }
+        ensures step { NextStep self.old self.new (S.view source.old) (S.view source.new) result }
+        ensures lines { (S.view source.old).told → Follows self.old result (waiting self.old ++ (S.view source.old).left) (waiting self.new ++ (S.view source.new).left) }
         ensures still { has_newline (waiting self.old) ≡ true → source.new ≡ source.old }
-        ensures told { S.told source.old → S.told source.new }
-        ensures faults { Faults (S.faults source.old) (S.faults source.new) (result ≡ NextLine.ReadFault) }
+        ensures frame { SourceAnswers (result ≡ NextLine.ReadFault) (S.view source.old) (S.view source.new) }
     {
         'reads: loop {
             if let Some(answer) = self.advance(alloc, source) {

@@ -4,7 +4,7 @@ use Rattle.std.proofs.lemmas.Bool.Decides.{Decides-eqb}
 use Rattle.jl_streams.specs.declared.source.Got.{Got}
 use Rattle.jl_streams.specs.declared.source.Got.TheVariants as got
 use Rattle.jl_streams.specs.Streams.{Reads}
-use Rattle.jl_streams.specs.Views.{SourceView, share, got_of, GivesFront}
+use Rattle.jl_streams.specs.Memory.{MemSourceView, share, got_of, GivesFront}
 
 -- a list of no members
 empty_is : (xs : List ℕ) → length xs ≡ 0 → xs ≡ []
@@ -22,7 +22,7 @@ front_reads k buf buf' left left' within none front rest =
       | false ↦ λ t. record { within = within; front = front; rest = rest }
     ] refl
 
-pub GivesFront-reads : (s s' : SourceView) (buf buf' : List ℕ) (answer : Got) → 1 ≤ s.piece → 0 < length buf → GivesFront s s' buf buf' answer (share s (length buf)) → Reads answer buf buf' s.left s'.left
+pub GivesFront-reads : (s s' : MemSourceView) (buf buf' : List ℕ) (answer : Got) → 1 ≤ s.piece → 0 < length buf → GivesFront s s' buf buf' answer (share s (length buf)) → Reads answer buf buf' s.left s'.left
 GivesFront-reads s s' buf buf' answer some room given =
     let left' : s'.left ≡ drop (share s (length buf)) s.left = ap (λ v. v.left) given.2 in
     subst (λ a. Reads a buf buf' s.left s'.left) (sym given.0)

@@ -1,3 +1,4 @@
+pub mod Memory
 pub mod Moments
 pub mod Streams
 pub mod Views

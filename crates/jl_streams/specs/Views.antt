@@ -1,72 +1,48 @@
--- What contracts see of the forms in memory, and what their calls do.
-use Rattle.std.specs.Prelude.{◌≡◌, ℕ, ◌-◌, List, ◌++◌, Bool, cond, min, length, take, drop, nat_eq}
-use Rattle.std.specs.List.{list_any}
-use Rattle.jl_text.specs.Counts.{counted}
-use Rattle.jl_streams.specs.declared.source.Got.{Got}
-use Rattle.jl_streams.specs.declared.source.Got.TheVariants as got
-use Rattle.jl_streams.specs.declared.sink.Put.{Put}
-use Rattle.jl_streams.specs.declared.sink.Put.TheVariants as put
+-- What contracts see of a source, a sink and a host, each as one record, and what every call leaves of it.
+use Rattle.std.specs.Prelude.{◌≡◌, ℕ, ◌≤◌, List}
+use Rattle.jl_text.specs.Counts.{Faults}
 
--- which calls fail, by their numbers from 0; how many calls and faults there were
-pub record CallsView : Type 0 where
-  pub failing : List ℕ
-  pub made : ℕ
+-- a source: whether it tells which bytes it gives, the bytes that are left, and how many calls failed
+pub record SourceView : Type 1 where
+  pub told : Type 0
+  pub left : List ℕ
   pub faults : ℕ
 
--- whether the next call is to fail
-abbrev pub fails : CallsView → Bool
-fails c = list_any (λ n. nat_eq n c.made) c.failing
-
--- one more fault
-abbrev pub failed : CallsView → CallsView
-failed c = record c { faults = counted c.faults }
-
--- one more call, which is a fault where it is to fail
-abbrev pub begun : CallsView → CallsView
-begun c = record c { made = counted c.made; faults = cond (fails c) (counted c.faults) c.faults }
-
--- a source: the bytes that are left, and how many a read gives at most
-pub record SourceView : Type 0 where
-  pub left : List ℕ
-  pub piece : ℕ
-  pub calls : CallsView
-
--- how many bytes a read gives into a buffer of this length
-abbrev pub share : SourceView → ℕ → ℕ
-share s room = min s.piece (min room (length s.left))
-
--- a count of bytes, or the end where there are none
-abbrev pub got_of : ℕ → Got
-got_of k = cond (nat_eq k 0) got.End (got.Bytes k)
-
--- a read that is to fail: nothing else changes
-abbrev pub FailsRead : SourceView → SourceView → List ℕ → List ℕ → Got → Type 0
-FailsRead s s' buf buf' answer = (answer ≡ got.Failed) × (buf' ≡ buf) × (s' ≡ record s { calls = begun s.calls })
-
--- a read that gives the front of what is left, k bytes
-abbrev pub GivesFront : SourceView → SourceView → List ℕ → List ℕ → Got → ℕ → Type 0
-GivesFront s s' buf buf' answer k = (answer ≡ got_of k) × (buf' ≡ take k s.left ++ drop k buf) × (s' ≡ record s { left = drop k s.left; calls = begun s.calls })
-
--- a sink: what was written, and how many bytes still fit
-pub record SinkView : Type 0 where
+-- a sink: whether it tells which bytes it takes, the bytes that were written, and how many calls failed
+pub record SinkView : Type 1 where
+  pub told : Type 0
   pub written : List ℕ
-  pub room : ℕ
-  pub calls : CallsView
+  pub faults : ℕ
 
--- a write that is to fail: nothing is written
-abbrev pub FailsWrite : SinkView → SinkView → Put → Type 0
-FailsWrite s s' answer = (answer ≡ put.Failed) × (s' ≡ record s { calls = begun s.calls })
-
--- a write that finds no room: it is a fault more
-abbrev pub FindsNoRoom : SinkView → SinkView → Put → Type 0
-FindsNoRoom s s' answer = (answer ≡ put.Failed) × (s' ≡ record s { calls = failed (begun s.calls) })
-
--- a write that takes the front of a piece, k bytes
-abbrev pub TakesFront : SinkView → SinkView → List ℕ → Put → ℕ → Type 0
-TakesFront s s' bytes answer k = (answer ≡ put.Took k) × (s' ≡ record { written = s.written ++ take k bytes; room = s.room - k; calls = begun s.calls })
-
--- a host: the moments that are left, how many processors, and the token
-pub record HostView : Type 0 where
-  pub moments : List ℕ
-  pub processors : ℕ
+-- a host: whether it tells its moments, the token of the run, how many processors there are, and the moments that are left
+pub record HostView : Type 1 where
+  pub told : Type 0
   pub token : List ℕ
+  pub processors : ℕ
+  pub moments : List ℕ
+
+-- a call of a source: who told goes on telling, and the count of faults rose exactly where it failed
+pub record SourceAnswers (Fails : Type 0) (old new : SourceView) : Type 0 where
+  pub told : old.told → new.told
+  pub faults : Faults old.faults new.faults Fails
+
+-- any number of calls of a source: who told goes on telling, and the count of faults never falls
+pub record SourceKeeps (old new : SourceView) : Type 0 where
+  pub told : old.told → new.told
+  pub later : old.faults ≤ new.faults
+
+-- a call of a sink: who told goes on telling, and the count of faults rose exactly where it failed
+pub record SinkAnswers (Fails : Type 0) (old new : SinkView) : Type 0 where
+  pub told : old.told → new.told
+  pub faults : Faults old.faults new.faults Fails
+
+-- any number of calls of a sink: who told goes on telling, and the count of faults never falls
+pub record SinkKeeps (old new : SinkView) : Type 0 where
+  pub told : old.told → new.told
+  pub later : old.faults ≤ new.faults
+
+-- any number of calls of a host: who told goes on telling, and its token and its processors stay
+pub record HostKeeps (old new : HostView) : Type 0 where
+  pub told : old.told → new.told
+  pub token : new.token ≡ old.token
+  pub processors : new.processors ≡ old.processors

@@ -1,7 +1,7 @@
 // Which calls of a form in memory fail.
 ghost use Rattle.std.specs.Prelude.{◌≡◌, ◌≤◌, true};
 ghost use Rattle.jl_text.specs.Counts.{Rose, Faults};
-ghost use Rattle.jl_streams.specs.Views.{fails, begun, failed};
+ghost use Rattle.jl_streams.specs.Memory.{fails, begun, failed};
 
 use std::marker::Model;
 
@@ -13,7 +13,7 @@ pub struct Calls {
 }
 
 impl Model for Calls {
-    ghost use Rattle.jl_streams.specs.Views.{CallsView};
+    ghost use Rattle.jl_streams.specs.Memory.{CallsView};
 
     ghost Value = { CallsView };
 

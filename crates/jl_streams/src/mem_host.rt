@@ -17,9 +17,9 @@ pub struct MemHost {
 impl Model for MemHost {
     ghost use Rattle.std.specs.Prelude.{◌≤◌, ◌^◌, drop, length, All, IsTrue};
     ghost use Rattle.jl_text.specs.Texts.{is_token};
-    ghost use Rattle.jl_streams.specs.Views.{HostView};
+    ghost use Rattle.jl_streams.specs.Memory.{MemHostView};
 
-    ghost Value = { HostView };
+    ghost Value = { MemHostView };
 
     ghost view = { λ h. record { moments = drop h.at h.times.items; processors = h.processors; token = h.token } };
 
@@ -51,15 +51,9 @@ impl MemHost {
 }
 
 impl Host for MemHost {
-    ghost use Rattle.std.specs.Prelude.{⊤};
+    ghost use Rattle.jl_streams.specs.Memory.{host_view};
 
-    ghost token = { λ h. h.token };
-
-    ghost processors = { λ h. h.processors };
-
-    ghost told = { λ h. ⊤ };
-
-    ghost moments = { λ h. h.moments };
+    ghost view = { λ h. host_view h };
 
     fn now(&mut self) -> u64 {
         let left = &self.times.as_slice()[self.at..];

@@ -2,7 +2,7 @@
 ghost use Rattle.std.specs.Prelude.{◌≡◌, ◌-◌, ◌<◌, [], ◌++◌, true, false, length, take, min, IfOk};
 ghost use Rattle.jl_text.specs.Counts.{Faults};
 ghost use Rattle.jl_streams.specs.Streams.{TakesSome, Writes};
-ghost use Rattle.jl_streams.specs.Views.{fails, FailsWrite, FindsNoRoom, TakesFront};
+ghost use Rattle.jl_streams.specs.Memory.{fails, FailsWrite, FindsNoRoom, TakesFront};
 
 use crate::calls::Calls;
 use crate::sink::{Put, Sink};
@@ -19,9 +19,9 @@ pub struct MemSink {
 
 impl Model for MemSink {
     ghost use Rattle.std.specs.Prelude.{◌≤◌, ◌+◌, vec_len, vec_capacity};
-    ghost use Rattle.jl_streams.specs.Views.{SinkView};
+    ghost use Rattle.jl_streams.specs.Memory.{MemSinkView};
 
-    ghost Value = { SinkView };
+    ghost Value = { MemSinkView };
 
     ghost view = { λ s. record { written = s.bytes.items; room = s.room; calls = s.calls } };
 
@@ -95,18 +95,15 @@ impl MemSink {
 }
 
 impl Sink for MemSink {
-    ghost use Rattle.std.specs.Prelude.{⊤};
+    ghost use Rattle.jl_streams.specs.Memory.{sink_view};
+    ghost use Rattle.jl_streams.specs.Views.{SinkAnswers};
 
-    ghost told = { λ s. ⊤ };
-
-    ghost written = { λ s. s.written };
-
-    ghost faults = { λ s. s.calls.faults };
+    ghost view = { λ s. sink_view s };
 
     fn write(&mut self, bytes: &[u8]) -> Put
         ensures some { TakesSome (length bytes.now) result }
         ensures bytes { Writes result bytes.now self.old.written self.new.written }
-        ensures faults { Faults self.old.calls.faults self.new.calls.faults (result ≡ Put.Failed) }
+        ensures frame { SinkAnswers (result ≡ Put.Failed) (sink_view self.old) (sink_view self.new) }
         ensures failing { fails self.old.calls ≡ true → FailsWrite self.old self.new result }
         ensures full { fails self.old.calls ≡ false → self.old.room ≡ 0 → 0 < length bytes.now → FindsNoRoom self.old self.new result }
         ensures fits { fails self.old.calls ≡ false → 0 < self.old.room → TakesFront self.old self.new bytes.now result (min self.old.room (length bytes.now)) }

@@ -2,7 +2,7 @@
 ghost use Rattle.std.specs.Prelude.{◌≡◌, ◌<◌, ◌≤◌, ◌++◌, true, false, length, take, drop, min};
 ghost use Rattle.jl_text.specs.Counts.{Faults};
 ghost use Rattle.jl_streams.specs.Streams.{GivesSome, Reads};
-ghost use Rattle.jl_streams.specs.Views.{fails, share, FailsRead, GivesFront};
+ghost use Rattle.jl_streams.specs.Memory.{fails, share, FailsRead, GivesFront};
 
 use crate::calls::Calls;
 use crate::source::{Got, Source};
@@ -20,9 +20,9 @@ pub struct MemSource {
 
 impl Model for MemSource {
     ghost use Rattle.std.specs.Prelude.{◌≤◌, drop, length};
-    ghost use Rattle.jl_streams.specs.Views.{SourceView};
+    ghost use Rattle.jl_streams.specs.Memory.{MemSourceView};
 
-    ghost Value = { SourceView };
+    ghost Value = { MemSourceView };
 
     ghost view = { λ s. record { left = drop s.at s.bytes; piece = s.piece; calls = s.calls } };
 
@@ -94,19 +94,16 @@ impl MemSource {
 }
 
 impl Source for MemSource {
-    ghost use Rattle.std.specs.Prelude.{⊤};
+    ghost use Rattle.jl_streams.specs.Memory.{source_view};
+    ghost use Rattle.jl_streams.specs.Views.{SourceAnswers};
 
-    ghost told = { λ s. ⊤ };
-
-    ghost left = { λ s. s.left };
-
-    ghost faults = { λ s. s.calls.faults };
+    ghost view = { λ s. source_view s };
 
     fn read(&mut self, buf: &mut [u8]) -> Got
         requires { 0 < length buf.old }
         ensures some { GivesSome (length buf.old) result }
         ensures bytes { Reads result buf.old buf.new self.old.left self.new.left }
-        ensures faults { Faults self.old.calls.faults self.new.calls.faults (result ≡ Got.Failed) }
+        ensures frame { SourceAnswers (result ≡ Got.Failed) (source_view self.old) (source_view self.new) }
         ensures failing { fails self.old.calls ≡ true → FailsRead self.old self.new buf.old buf.new result }
         ensures gives { fails self.old.calls ≡ false → GivesFront self.old self.new buf.old buf.new result (share self.old (length buf.old)) }
     {

@@ -1,7 +1,7 @@
 // Where bytes go.
-ghost use Rattle.std.specs.Prelude.{◌≡◌, ℕ, List, length};
-ghost use Rattle.jl_text.specs.Counts.{Faults};
+ghost use Rattle.std.specs.Prelude.{◌≡◌, length};
 ghost use Rattle.jl_streams.specs.Streams.{TakesSome, Writes, WritesAll};
+ghost use Rattle.jl_streams.specs.Views.{SinkView, SinkAnswers};
 
 /// What a write took.
 #[derive(Clone, Copy, Debug, PartialEq, Eq)]
@@ -14,21 +14,14 @@ pub enum Put {
 
 /// A stream of bytes to write.
 pub trait Sink {
-    /// Whether it tells which bytes it takes.
-    ghost told: { Self → Type 0 };
-
-    /// The bytes that were written.
-    ghost written: { Self → List ℕ };
-
-    /// How many calls failed.
-    ghost faults: { Self → ℕ };
+    /// What contracts see.
+    ghost view: { Self → SinkView };
 
     /// Writes bytes from the front of a piece.
     fn write(&mut self, bytes: &[u8]) -> Put
         ensures some { TakesSome (length bytes.now) result }
-        ensures bytes { told self.old → Writes result bytes.now (written self.old) (written self.new) }
-        ensures told { told self.old → told self.new }
-        ensures faults { Faults (faults self.old) (faults self.new) (result ≡ Put.Failed) };
+        ensures bytes { (view self.old).told → Writes result bytes.now (view self.old).written (view self.new).written }
+        ensures frame { SinkAnswers (result ≡ Put.Failed) (view self.old) (view self.new) };
 }
 
 /// How the writing of all bytes ended.
@@ -42,9 +35,8 @@ pub enum WroteAll {
 
 /// Writes all bytes, each time those that are still to be written. Takes no memory.
 pub fn write_all<O: Sink>(sink: &mut O, bytes: &[u8]) -> WroteAll
-    ensures bytes { O.told sink.old → WritesAll result bytes.now (O.written sink.old) (O.written sink.new) }
-    ensures told { O.told sink.old → O.told sink.new }
-    ensures faults { Faults (O.faults sink.old) (O.faults sink.new) (result ≡ WroteAll.Fault) }
+    ensures bytes { (O.view sink.old).told → WritesAll result bytes.now (O.view sink.old).written (O.view sink.new).written }
+    ensures frame { SinkAnswers (result ≡ WroteAll.Fault) (O.view sink.old) (O.view sink.new) }
 {
     let mut at = 0;
     while at < bytes.len() {

@@ -1,7 +1,7 @@
 // Where bytes come from.
-ghost use Rattle.std.specs.Prelude.{◌≡◌, ℕ, ◌<◌, List, length};
-ghost use Rattle.jl_text.specs.Counts.{Faults};
+ghost use Rattle.std.specs.Prelude.{◌≡◌, ◌<◌, length};
 ghost use Rattle.jl_streams.specs.Streams.{GivesSome, Reads};
+ghost use Rattle.jl_streams.specs.Views.{SourceView, SourceAnswers};
 
 /// What a read gave.
 #[derive(Clone, Copy, Debug, PartialEq, Eq)]
@@ -16,20 +16,13 @@ pub enum Got {
 
 /// A stream of bytes to read.
 pub trait Source {
-    /// Whether it tells which bytes it gives.
-    ghost told: { Self → Type 0 };
-
-    /// The bytes that are left.
-    ghost left: { Self → List ℕ };
-
-    /// How many calls failed.
-    ghost faults: { Self → ℕ };
+    /// What contracts see.
+    ghost view: { Self → SourceView };
 
     /// Reads some of the bytes that are left into the buffer.
     fn read(&mut self, buf: &mut [u8]) -> Got
         requires { 0 < length buf.old }
         ensures some { GivesSome (length buf.old) result }
-        ensures bytes { told self.old → Reads result buf.old buf.new (left self.old) (left self.new) }
-        ensures told { told self.old → told self.new }
-        ensures faults { Faults (faults self.old) (faults self.new) (result ≡ Got.Failed) };
+        ensures bytes { (view self.old).told → Reads result buf.old buf.new (view self.old).left (view self.new).left }
+        ensures frame { SourceAnswers (result ≡ Got.Failed) (view self.old) (view self.new) };
 }

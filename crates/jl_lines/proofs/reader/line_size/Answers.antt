@@ -1,4 +1,4 @@
-use Rattle.std.proofs.Common.{sym, ◌∙◌}
+use Rattle.std.proofs.Common.{sym}
 use Rattle.jl_lines.proofs.LineLemmas.{position-some, position-none}
 use Rattle.jl_lines.proofs.reader.line_size.Goals as goal
 

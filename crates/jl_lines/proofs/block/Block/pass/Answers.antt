@@ -1,4 +1,4 @@
-use Rattle.std.proofs.Common.{◌≤◌, length, take, drop, ◌-◌, ◌∙◌, sym, ap, subst}
+use Rattle.std.proofs.Common.{◌≤◌, length, drop, ◌∙◌, sym, ap, subst}
 use Rattle.jl_lines.proofs.LineLemmas.{pass_is}
 use Rattle.jl_lines.proofs.block.Block.pass.Goals as goal
 

@@ -1,4 +1,4 @@
-use Rattle.std.proofs.Common.{◌≡◌, ◌+◌, ◌<◌, ◌∙◌, [], false, length, ap, subst, sym, arith}
+use Rattle.std.proofs.Common.{◌+◌, ◌<◌, ◌∙◌, length, ap, subst, sym, arith}
 use Rattle.jl_lines.specs.Readers.{IsReader}
 use Rattle.jl_lines.proofs.StepLemmas.{takes_last, not_zero}
 use Rattle.jl_lines.proofs.reader.LineReader.last_line.Goals as goal

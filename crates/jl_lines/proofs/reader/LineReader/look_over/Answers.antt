@@ -1,4 +1,4 @@
-use Rattle.std.proofs.Common.{◌≡◌, ◌∙◌, ◌++◌, [], true, false, length, drop, sym, ap, subst}
+use Rattle.std.proofs.Common.{◌≡◌, ◌∙◌, ◌++◌, false, length, drop, sym, ap, subst}
 use Rattle.std.proofs.Math.Seq.{drop-length}
 use Rattle.jl_lines.specs.Lines.{has_newline}
 use Rattle.jl_lines.specs.Steps.{is_over}

@@ -1,4 +1,5 @@
-use Rattle.std.proofs.Common.{◌≡◌, ◌+◌, ◌^◌, ◌≤◌, ◌∙◌, false, ap, subst, drop}
+use Rattle.std.proofs.Common.{◌≡◌, ◌+◌, ◌≤◌, ◌∙◌, false, ap, subst, drop}
+use Rattle.jl_text.specs.declared.limits.TheConstants.{MOST_INPUT_BYTES}
 use Rattle.jl_lines.specs.Lines.{has_newline}
 use Rattle.jl_lines.proofs.ReaderLemmas.{passes_long}
 use Rattle.jl_lines.proofs.reader.LineReader.pass_long.Goals as goal
@@ -14,4 +15,4 @@ returns c =
       long = false;
       front = c.clear.ensures.items i;
       rest = (c.pass.ensures ∙ ap (λ v. drop c.args.size v.rest) is) i;
-    }) (subst (λ v. v.taken ≤ 2 ^ 40) is c.self.invariant.most)
+    }) (subst (λ v. v.taken ≤ MOST_INPUT_BYTES) is c.self.invariant.most)

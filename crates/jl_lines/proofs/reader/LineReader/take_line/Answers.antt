@@ -1,4 +1,4 @@
-use Rattle.std.proofs.Common.{◌≡◌, ◌∙◌, false, ap, subst, sym}
+use Rattle.std.proofs.Common.{◌∙◌, ap, subst, sym}
 use Rattle.jl_lines.specs.Lines.{has_newline}
 use Rattle.jl_lines.specs.Readers.{IsReader}
 use Rattle.jl_lines.proofs.StepLemmas.{keeps_all, of_or}

@@ -1,4 +1,5 @@
-use Rattle.std.proofs.Common.{◌≡◌, ◌+◌, ◌^◌, ◌≤◌, ◌-◌, ◌∙◌, ◌++◌, false, ap, subst, take, drop}
+use Rattle.std.proofs.Common.{◌≡◌, ◌+◌, ◌≤◌, ◌-◌, ◌∙◌, ◌++◌, false, ap, subst, take, drop}
+use Rattle.jl_text.specs.declared.limits.TheConstants.{MOST_INPUT_BYTES}
 use Rattle.jl_lines.specs.Lines.{has_newline}
 use Rattle.jl_lines.proofs.ReaderLemmas.{takes_short, keeps_short}
 use Rattle.jl_lines.proofs.reader.LineReader.take_short.Goals as goal
@@ -14,7 +15,7 @@ returns-in-Err c =
       long = (is i).long;
       front = (c.in-Err.ensures.items ∙ ap (λ v. v.front) is) i;
       rest = (is i).rest;
-    }) (subst (λ v. v.taken ≤ 2 ^ 40) is c.self.invariant.most)
+    }) (subst (λ v. v.taken ≤ MOST_INPUT_BYTES) is c.self.invariant.most)
 
 pub returns : goal.returns
 returns c =
@@ -28,4 +29,4 @@ returns c =
       long = (is i).long;
       front = (ap (λ v. v.items) c.replace.ensures.after ∙ c.new.ensures.items) i;
       rest = (c.pass.ensures ∙ ap (λ v. drop c.args.size v.rest) is) i;
-    }) (subst (λ v. v.taken ≤ 2 ^ 40) is c.self.invariant.most)
+    }) (subst (λ v. v.taken ≤ MOST_INPUT_BYTES) is c.self.invariant.most)

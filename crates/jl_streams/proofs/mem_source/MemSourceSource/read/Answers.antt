@@ -1,6 +1,6 @@
 use Rattle.std.proofs.Common.{◌≡◌, true, false, sym, ap, subst, refl}
 use Rattle.jl_streams.specs.Streams.{Reads}
-use Rattle.jl_streams.specs.Views.{fails}
+use Rattle.jl_streams.specs.Memory.{fails}
 use Rattle.jl_streams.proofs.ReadLemmas.{GivesFront-reads}
 use Rattle.jl_streams.proofs.mem_source.MemSourceSource.read.Goals as goal
 
