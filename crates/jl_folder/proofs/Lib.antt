@@ -1,12 +1,9 @@
-pub mod ChildLemmas
-pub mod DiskLemmas
-pub mod EmptyTree
-pub mod ForeignLemmas
+pub mod Bare
+pub mod Frames
 pub mod Looks
-pub mod MemoryLemmas
+pub mod NodesKept
 pub mod Opens
+pub mod PathLemmas
 pub mod ReadingLemmas
-pub mod ScriptLemmas
 pub mod StateKept
-pub mod TableLemmas
 pub mod Traces

@@ -1,8 +1,12 @@
 -- Numbers that were opened are open.
-use Rattle.std.proofs.Common.{◌≡◌, ℕ, true, Bool, Some, is_some, ◌∙◌, ap}
-use Rattle.jl_folder.specs.State.{Opens}
+use Rattle.std.proofs.Common.{◌≡◌, ℕ, true, cond, Bool, Some, is_some, ◌∙◌, ap, refl}
+use Rattle.std.proofs.lemmas.Bool.Decides.{Decides-eqb}
+use Rattle.jl_folder.specs.declared.moves.OpenFile.{OpenFile}
+use Rattle.jl_folder.specs.State.{Opens, put_open}
 use Rattle.jl_folder.specs.Calls.{OpensNew, IsMade, IsOpen}
-use Rattle.jl_folder.proofs.MemoryLemmas.{put_here}
+
+pub put_here : (opens : Opens) (place : ℕ) (file : OpenFile) → put_open opens place file place ≡ Some file
+put_here opens place file = ap (λ b. cond b (Some file) (opens place)) ((Decides-eqb place place).1 refl)
 
 -- a number that `create` answered may be appended to
 pub IsMade-new : (number : ℕ) (before after : Opens) → OpensNew true number before after → IsMade after number

@@ -1,16 +1,16 @@
 -- Moves that are allowed keep states states.
-use Rattle.std.proofs.Common.{◌≡◌, ◌≢◌, ℕ, List, [], ◌∷◌, Bool, true, false, cond, not, ◌&&◌, Option, None, Some, IsSome, is_some, nat_eq, option_map, ◌⊎◌, inl, inr, sym, ◌∙◌, ap, subst, refl, true≢false}
+use Rattle.std.proofs.Common.{◌≡◌, ℕ, List, [], ◌∷◌, Bool, true, false, cond, not, ◌&&◌, Option, None, Some, IsSome, is_some, sym, ◌∙◌, ap, subst, refl, true≢false}
 use Rattle.std.specs.Option.{option_map_or}
 use Rattle.jl_folder.specs.declared.moves.Place.{Place}
 use Rattle.jl_folder.specs.declared.moves.Place.TheVariants.{Folder, File}
 use Rattle.jl_folder.specs.declared.moves.Move.{Move}
 use Rattle.jl_folder.specs.declared.moves.Move.TheVariants.{MakeDir, Create, Append, Rename, Remove, RemoveDir}
 use Rattle.jl_text.specs.Paths.{PathView, path_eq, is_fixed, parent}
-use Rattle.jl_folder.specs.State.{State, Event, Trace, Allowed, IsTrace, IsState, place_at, node_at, is_folder, is_file, is_folder_place, is_file_place, has_parent, run, after}
+use Rattle.jl_folder.specs.State.{State, Trace, Allowed, IsTrace, IsState, place_at, is_folder, is_file, is_folder_place, is_file_place, has_parent, run, after}
 use Rattle.jl_folder.specs.Looks.{place_after, place_renamed}
 use Rattle.jl_folder.proofs.Looks.{place_at-after}
-use Rattle.jl_folder.proofs.TableLemmas.{path_eq-Decides}
-use Rattle.jl_folder.proofs.MemoryLemmas.{names-kept}
+use Rattle.jl_folder.proofs.PathLemmas.{path_eq-Decides}
+use Rattle.jl_folder.proofs.NodesKept.{names-kept}
 
 folder_is : (o : Option Place) → option_map_or is_folder_place o false ≡ true → o ≡ Some Folder
 folder_is None e = cc

@@ -1,7 +1,6 @@
 -- What a call of a folder does: moves of others, then at most one of its own, and the answer of the state between.
-use Rattle.std.specs.Prelude.{◌≡◌, ◌≢◌, ◌⊎◌, ◌↔◌, ℕ, ◌+◌, ◌-◌, ◌^◌, ◌<◌, ◌≤◌, min, List, [], ◌∷◌, ◌++◌, Bool, true, false, Option, None, Some, IsSome, length, take, drop, All}
-use Rattle.jl_folder.specs.declared.moves.Place.{Place}
-use Rattle.jl_folder.specs.declared.moves.Place.TheVariants.{Folder, File}
+use Rattle.std.specs.Prelude.{◌≡◌, ◌⊎◌, ℕ, ◌-◌, ◌<◌, ◌≤◌, List, [], ◌∷◌, ◌++◌, Bool, true, false, Option, None, Some, IsSome, length, take, drop}
+use Rattle.jl_folder.specs.declared.moves.Place.TheVariants.{File}
 use Rattle.jl_folder.specs.declared.moves.Move.{Move}
 use Rattle.jl_folder.specs.declared.moves.Move.TheVariants.{MakeDir, Create, Append, Rename, Remove, RemoveDir}
 use Rattle.jl_folder.specs.declared.moves.Node.{Node}
@@ -25,7 +24,8 @@ use Rattle.jl_folder.specs.declared.folder.ReadAt.{ReadAt}
 use Rattle.jl_folder.specs.declared.folder.ReadAt.TheVariants as read_at
 use Rattle.jl_folder.specs.declared.moves.OpenFile.{OpenFile}
 use Rattle.jl_text.specs.Paths.{PathView, is_fixed, parent}
-use Rattle.jl_folder.specs.State.{State, Trace, Event, Opens, History, place_at, node_at, is_folder, has_parent, is_file, IsEmptyFolder, IsTrace, IsForeign, run, now, put_open, closed}
+use Rattle.jl_folder.specs.State.{State, Trace, Opens, place_at, node_at, is_folder, has_parent, is_file, IsEmptyFolder, IsTrace, IsForeign, run, put_open}
+use Rattle.jl_folder.specs.Views.{FolderView, state}
 
 -- the call's own moves
 abbrev pub own_event : List ℕ → Option Move → Trace
@@ -33,26 +33,26 @@ own_event me None = []
 own_event me (Some m) = (me, m) ∷ []
 
 -- moves of others, then at most one of its own; `answer` speaks of the state between and of the own move
-pub record Call (me : List ℕ) (old new : History) (Answer : State → Option Move → Type 0) : Type 0 where
+pub record Call (old new : FolderView) (Answer : State → Option Move → Type 0) : Type 0 where
   pub others : Trace
   pub own : Option Move
-  pub foreign : IsForeign me others
-  pub start : new.start ≡ old.start
-  pub trace : new.trace ≡ old.trace ++ (others ++ own_event me own)
-  pub lawful : IsTrace (now old) (others ++ own_event me own)
-  pub answer : Answer (run (now old) others) own
+  pub foreign : IsForeign old.token others
+  pub start : new.history.start ≡ old.history.start
+  pub trace : new.history.trace ≡ old.history.trace ++ (others ++ own_event old.token own)
+  pub lawful : IsTrace (state old) (others ++ own_event old.token own)
+  pub answer : Answer (run (state old) others) own
 
 -- this own move or none
 abbrev pub Maybe : Move → Option Move → Type 0
 Maybe move own = (own ≡ None) ⊎ (own ≡ Some move)
 
 -- others moved, and nobody else
-pub record Waits (me : List ℕ) (old new : History) : Type 0 where
+pub record Waits (old new : FolderView) : Type 0 where
   pub others : Trace
-  pub foreign : IsForeign me others
-  pub start : new.start ≡ old.start
-  pub trace : new.trace ≡ old.trace ++ others
-  pub lawful : IsTrace (now old) others
+  pub foreign : IsForeign old.token others
+  pub start : new.history.start ≡ old.history.start
+  pub trace : new.history.trace ≡ old.history.trace ++ others
+  pub lawful : IsTrace (state old) others
 
 -- what `make_dir` answers and does
 abbrev pub MakesDir : PathView → MadeDir → State → Option Move → Type 0

@@ -1,16 +1,11 @@
 pub mod Calls
-pub mod Children
-pub mod Disk
 pub mod Listing
 pub mod Looks
-pub mod Memory
 pub mod OpenTable
 pub mod Reading
 pub mod Same
-pub mod Scripts
 pub mod State
-pub mod Tables
-pub mod Trees
+pub mod Views
 pub use Rattle.jl_text.specs.Counts
 pub use Rattle.jl_text.specs.Paths
 pub use Rattle.jl_text.specs.Texts

@@ -1,8 +1,7 @@
 -- The look-ups after a move, in terms of the look-ups before it.
-use Rattle.std.specs.Prelude.{◌≡◌, ℕ, Bool, true, false, cond, Option, None, Some, nat_eq, option_map}
+use Rattle.std.specs.Prelude.{ℕ, cond, Option, None, Some, nat_eq, option_map}
 use Rattle.jl_folder.specs.declared.moves.Place.{Place}
 use Rattle.jl_folder.specs.declared.moves.Place.TheVariants.{Folder, File}
-use Rattle.jl_folder.specs.declared.moves.Move.{Move}
 use Rattle.jl_folder.specs.declared.moves.Move.TheVariants.{MakeDir, Create, Append, Rename, Remove, RemoveDir}
 use Rattle.jl_folder.specs.declared.moves.Node.{Node}
 use Rattle.jl_text.specs.Paths.{PathView, path_eq}

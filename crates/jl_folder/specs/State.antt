@@ -1,5 +1,5 @@
 -- The state of a folder, and what a move makes of it.
-use Rattle.std.specs.Prelude.{◌≡◌, ◌≢◌, ℕ, ◌+◌, ◌<◌, List, [], ◌∷◌, ◌++◌, Bool, true, false, ◌&&◌, not, cond, Option, None, Some, IsTrue, IsSome, length, drop, nat_eq, option_map, count_by}
+use Rattle.std.specs.Prelude.{◌≡◌, ◌≢◌, ℕ, List, [], ◌∷◌, ◌++◌, Bool, true, false, ◌&&◌, not, cond, Option, None, Some, IsSome, length, drop, nat_eq, option_map, count_by}
 use Rattle.std.specs.Str.{bytes_eq}
 use Rattle.std.specs.Option.{option_map_or}
 use Rattle.std.specs.Ordering.{nat_cmp}
@@ -126,6 +126,10 @@ pub record IsState (s : State) : Type 0 where
   pub top : place_at s ([] ∷ []) ≡ Some Folder
   pub parents : (p : PathView) → is_fixed p ≡ false → IsSome (place_at s p) → has_parent s p ≡ true
   pub nodes : (p : PathView) (n : ℕ) → place_at s p ≡ Some (File n) → IsSome (node_at s n)
+
+-- nothing but the two folders that are always there
+abbrev pub bare_state : State
+bare_state = record { places = finmap.from_entries (([], Folder) ∷ ([] ∷ [], Folder) ∷ []); nodes = finmap.from_entries [] }
 
 -- the open files by their numbers
 abbrev pub Opens : Type 0

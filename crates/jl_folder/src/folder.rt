@@ -1,9 +1,9 @@
 // The folder, as a run sees it beside others.
-ghost use Rattle.std.specs.Prelude.{◌≡◌, ◌≢◌, ◌<◌, List, ℕ, length};
-ghost use Rattle.jl_folder.specs.State.{History, IsHistory, Opens, closed, now, since};
+ghost use Rattle.std.specs.Prelude.{◌≡◌, ◌≢◌, ◌<◌, length};
+ghost use Rattle.jl_folder.specs.State.{IsHistory, closed};
+ghost use Rattle.jl_folder.specs.Views.{FolderView, FolderAnswers, FolderTurns, state, moved};
 ghost use Rattle.jl_folder.specs.Listing.{ListsFolder, ListsParts};
 ghost use Rattle.jl_folder.specs.Calls.{Call, Waits, MakesDir, CreatesFile, AppendsBytes, AppendsSome, RenamesFile, RemovesFile, RemovesFolder, OpensFile, ReadsBytes, ReadsWithin, SizesFile, NoMove, IsMade, IsOpen, CreatedOpens, OpenedOpens};
-ghost use Rattle.jl_text.specs.Counts.{Faults};
 
 use crate::listing::Listed;
 use jl_text::Path;
@@ -98,117 +98,75 @@ pub enum ReadAt {
 /// A folder of files, as one run sees it beside others that change it too. During each call others may make moves, and then the call makes at most one of its own and answers as things then stand.
 /// `Failed` comes from a fault, which is counted; `NoMemory` from want of memory. After either the call's own move was made or was not made.
 pub trait Folder {
-    /// The token of the run that makes these calls.
-    ghost token: { Self → List ℕ };
-
-    /// Whether it tells its history.
-    ghost told: { Self → Type 0 };
-
-    /// How it began, and all moves since.
-    ghost history: { Self → History };
-
-    /// The open numbers, which every folder tells.
-    ghost opens: { Self → Opens };
-
-    /// How many faults there were, which stands still at its last value.
-    ghost faults: { Self → ℕ };
+    /// What contracts see.
+    ghost view: { Self → FolderView };
 
     /// Makes a folder whose parent is there.
     fn make_dir(&mut self, path: &Path) -> MadeDir
-        ensures call { told self.old → Call (token self.old) (history self.old) (history self.new) (MakesDir path.now result) }
-        ensures told { told self.old → told self.new }
-        ensures token { token self.new ≡ token self.old }
-        ensures opens { opens self.new ≡ opens self.old }
-        ensures faults { Faults (faults self.old) (faults self.new) (result ≡ MadeDir.Failed) };
+        ensures call { (view self.old).told → Call (view self.old) (view self.new) (MakesDir path.now result) }
+        ensures frame { FolderAnswers (result ≡ MadeDir.Failed) (view self.old) (view self.new) };
 
     /// Makes a new empty file, and opens it.
     fn create(&mut self, path: &Path) -> Created
-        ensures call { told self.old → Call (token self.old) (history self.old) (history self.new) (CreatesFile path.now (opens self.new) result) }
-        ensures told { told self.old → told self.new }
-        ensures token { token self.new ≡ token self.old }
-        ensures opens { CreatedOpens result (opens self.old) (opens self.new) }
-        ensures faults { Faults (faults self.old) (faults self.new) (result ≡ Created.Failed) };
+        ensures call { (view self.old).told → Call (view self.old) (view self.new) (CreatesFile path.now (view self.new).opens result) }
+        ensures opens { CreatedOpens result (view self.old).opens (view self.new).opens }
+        ensures frame { FolderTurns (result ≡ Created.Failed) (view self.old) (view self.new) };
 
     /// Adds a first part of the bytes to a file that `create` opened.
     fn append(&mut self, number: FileNo, bytes: &[u8]) -> Appended
-        requires { IsMade (opens self.old) number.0 }
-        ensures call { told self.old → Call (token self.old) (history self.old) (history self.new) (AppendsBytes number.0 bytes.now (opens self.old) result) }
-        ensures told { told self.old → told self.new }
-        ensures token { token self.new ≡ token self.old }
-        ensures opens { opens self.new ≡ opens self.old }
+        requires { IsMade (view self.old).opens number.0 }
+        ensures call { (view self.old).told → Call (view self.old) (view self.new) (AppendsBytes number.0 bytes.now (view self.old).opens result) }
         ensures some { AppendsSome (length bytes.now) result }
-        ensures faults { Faults (faults self.old) (faults self.new) (result ≡ Appended.Failed) };
+        ensures frame { FolderAnswers (result ≡ Appended.Failed) (view self.old) (view self.new) };
 
     /// Gives a file another name, which it takes from the file that had it.
     fn rename(&mut self, from: &Path, to: &Path) -> Renamed
         requires { from.now ≢ to.now }
-        ensures call { told self.old → Call (token self.old) (history self.old) (history self.new) (RenamesFile from.now to.now result) }
-        ensures told { told self.old → told self.new }
-        ensures token { token self.new ≡ token self.old }
-        ensures opens { opens self.new ≡ opens self.old }
-        ensures faults { Faults (faults self.old) (faults self.new) (result ≡ Renamed.Failed) };
+        ensures call { (view self.old).told → Call (view self.old) (view self.new) (RenamesFile from.now to.now result) }
+        ensures frame { FolderAnswers (result ≡ Renamed.Failed) (view self.old) (view self.new) };
 
     /// Takes away a file's name. Open numbers keep the file.
     fn remove(&mut self, path: &Path) -> Removed
-        ensures call { told self.old → Call (token self.old) (history self.old) (history self.new) (RemovesFile path.now result) }
-        ensures told { told self.old → told self.new }
-        ensures token { token self.new ≡ token self.old }
-        ensures opens { opens self.new ≡ opens self.old }
-        ensures faults { Faults (faults self.old) (faults self.new) (result ≡ Removed.Failed) };
+        ensures call { (view self.old).told → Call (view self.old) (view self.new) (RemovesFile path.now result) }
+        ensures frame { FolderAnswers (result ≡ Removed.Failed) (view self.old) (view self.new) };
 
     /// Removes a folder in which nothing stands.
     fn remove_dir(&mut self, path: &Path) -> RemovedDir
-        ensures call { told self.old → Call (token self.old) (history self.old) (history self.new) (RemovesFolder path.now result) }
-        ensures told { told self.old → told self.new }
-        ensures token { token self.new ≡ token self.old }
-        ensures opens { opens self.new ≡ opens self.old }
-        ensures faults { Faults (faults self.old) (faults self.new) (result ≡ RemovedDir.Failed) };
+        ensures call { (view self.old).told → Call (view self.old) (view self.new) (RemovesFolder path.now result) }
+        ensures frame { FolderAnswers (result ≡ RemovedDir.Failed) (view self.old) (view self.new) };
 
     /// Opens the file that the path names now, whatever it names later.
     fn open_file(&mut self, path: &Path) -> Opened
-        ensures call { told self.old → Call (token self.old) (history self.old) (history self.new) (OpensFile path.now (opens self.new) result) }
-        ensures told { told self.old → told self.new }
-        ensures token { token self.new ≡ token self.old }
-        ensures opens { OpenedOpens result (opens self.old) (opens self.new) }
-        ensures faults { Faults (faults self.old) (faults self.new) (result ≡ Opened.Failed) };
+        ensures call { (view self.old).told → Call (view self.old) (view self.new) (OpensFile path.now (view self.new).opens result) }
+        ensures opens { OpenedOpens result (view self.old).opens (view self.new).opens }
+        ensures frame { FolderTurns (result ≡ Opened.Failed) (view self.old) (view self.new) };
 
     /// Reads a part of an open file from an offset on.
     fn read_at(&mut self, number: FileNo, at: u64, buf: &mut [u8]) -> ReadAt
-        requires is_open { IsOpen (opens self.old) number.0 }
+        requires is_open { IsOpen (view self.old).opens number.0 }
         requires room { 0 < length buf.old }
-        ensures call { told self.old → Call (token self.old) (history self.old) (history self.new) (ReadsBytes number.0 at buf.old buf.new (opens self.old) result) }
-        ensures told { told self.old → told self.new }
-        ensures token { token self.new ≡ token self.old }
-        ensures opens { opens self.new ≡ opens self.old }
+        ensures call { (view self.old).told → Call (view self.old) (view self.new) (ReadsBytes number.0 at buf.old buf.new (view self.old).opens result) }
         ensures within { ReadsWithin (length buf.old) result }
-        ensures faults { Faults (faults self.old) (faults self.new) (result ≡ ReadAt.Failed) };
+        ensures frame { FolderAnswers (result ≡ ReadAt.Failed) (view self.old) (view self.new) };
 
     /// How many bytes the file has.
     fn size(&mut self, path: &Path) -> SizeOf
-        ensures call { told self.old → Call (token self.old) (history self.old) (history self.new) (SizesFile path.now result) }
-        ensures told { told self.old → told self.new }
-        ensures token { token self.new ≡ token self.old }
-        ensures opens { opens self.new ≡ opens self.old }
-        ensures faults { Faults (faults self.old) (faults self.new) (result ≡ SizeOf.Failed) };
+        ensures call { (view self.old).told → Call (view self.old) (view self.new) (SizesFile path.now result) }
+        ensures frame { FolderAnswers (result ≡ SizeOf.Failed) (view self.old) (view self.new) };
 
     /// What stands right in a folder: each name that is there throughout the call, and no name that never is.
     fn list(&mut self, path: &Path) -> Listed
-        ensures waits { told self.old → Waits (token self.old) (history self.old) (history self.new) }
-        ensures names { told self.old → ListsFolder path.now result (now (history self.old)) (since (history self.old) (history self.new)) }
+        ensures waits { (view self.old).told → Waits (view self.old) (view self.new) }
+        ensures names { (view self.old).told → ListsFolder path.now result (state (view self.old)) (moved (view self.old) (view self.new)) }
         ensures parts { ListsParts result }
-        ensures told { told self.old → told self.new }
-        ensures token { token self.new ≡ token self.old }
-        ensures opens { opens self.new ≡ opens self.old }
-        ensures faults { Faults (faults self.old) (faults self.new) (result ≡ Listed.Failed) };
+        ensures frame { FolderAnswers (result ≡ Listed.Failed) (view self.old) (view self.new) };
 
     /// Closes a number, if it is open.
     fn close(&mut self, number: FileNo)
-        ensures call { told self.old → Call (token self.old) (history self.old) (history self.new) (NoMove) }
-        ensures told { told self.old → told self.new }
-        ensures token { token self.new ≡ token self.old }
-        ensures opens { opens self.new ≡ closed (opens self.old) number.0 }
-        ensures faults { Faults (faults self.old) (faults self.new) (⊥) };
+        ensures call { (view self.old).told → Call (view self.old) (view self.new) (NoMove) }
+        ensures opens { (view self.new).opens ≡ closed (view self.old).opens number.0 }
+        ensures frame { FolderTurns (⊥) (view self.old) (view self.new) };
 
     /// What it tells began as a state and went on by moves that are allowed.
-    ghost lawful: { (folder : Self) → told folder → IsHistory (history folder) (opens folder) };
+    ghost lawful: { (folder : Self) → (view folder).told → IsHistory (view folder).history (view folder).opens };
 }

@@ -1,8 +1,7 @@
 // Reads a file through one open number.
 ghost use Rattle.std.specs.Prelude.{◌≡◌, ◌≤◌, ◌<◌, ◌++◌, true, length, take};
-ghost use Rattle.jl_folder.specs.State.{now, since};
+ghost use Rattle.jl_folder.specs.Views.{FolderAnswers, state, moved};
 ghost use Rattle.jl_folder.specs.Calls.{IsOpen, Waits};
-ghost use Rattle.jl_text.specs.Counts.{Faults};
 ghost use Rattle.jl_folder.specs.Reading.{ReadsOpen, ReadsFile, file_of, FileWithin, OpenWithin};
 
 use crate::folder::{FileNo, Folder, Opened, ReadAt};
@@ -45,15 +44,12 @@ fn read_pieces<F: Folder>(
     most: usize,
     buf: &mut [u8],
 ) -> OpenRead
-    requires is_open { IsOpen (F.opens folder.old) number.0 }
+    requires is_open { IsOpen (F.view folder.old).opens number.0 }
     requires room { 0 < most → 0 < length buf.old }
-    ensures told { F.told folder.old → F.told folder.new }
-    ensures token { F.token folder.new ≡ F.token folder.old }
-    ensures waits { F.told folder.old → Waits (F.token folder.old) (F.history folder.old) (F.history folder.new) }
-    ensures opens { F.opens folder.new ≡ F.opens folder.old }
-    ensures reads { F.told folder.old → ReadsOpen (F.opens folder.old) number.0 most result (F.history folder.old) (F.history folder.new) }
+    ensures waits { (F.view folder.old).told → Waits (F.view folder.old) (F.view folder.new) }
+    ensures reads { (F.view folder.old).told → ReadsOpen number.0 most result (F.view folder.old) (F.view folder.new) }
     ensures within { OpenWithin most result }
-    ensures faults { Faults (F.faults folder.old) (F.faults folder.new) (result ≡ OpenRead.Failed) }
+    ensures frame { FolderAnswers (result ≡ OpenRead.Failed) (F.view folder.old) (F.view folder.new) }
 {
     let mut bytes = Vec::new(alloc);
     'pieces: while bytes.len() < most {
@@ -75,14 +71,11 @@ fn read_pieces<F: Folder>(
 
 /// The same as `read_file` through a number that is open already, and stays open.
 pub fn read_open<F: Folder>(alloc: Global, folder: &mut F, number: FileNo, most: usize) -> OpenRead
-    requires { IsOpen (F.opens folder.old) number.0 }
-    ensures told { F.told folder.old → F.told folder.new }
-    ensures token { F.token folder.new ≡ F.token folder.old }
-    ensures waits { F.told folder.old → Waits (F.token folder.old) (F.history folder.old) (F.history folder.new) }
-    ensures opens { F.opens folder.new ≡ F.opens folder.old }
-    ensures reads { F.told folder.old → ReadsOpen (F.opens folder.old) number.0 most result (F.history folder.old) (F.history folder.new) }
+    requires { IsOpen (F.view folder.old).opens number.0 }
+    ensures waits { (F.view folder.old).told → Waits (F.view folder.old) (F.view folder.new) }
+    ensures reads { (F.view folder.old).told → ReadsOpen number.0 most result (F.view folder.old) (F.view folder.new) }
     ensures within { OpenWithin most result }
-    ensures faults { Faults (F.faults folder.old) (F.faults folder.new) (result ≡ OpenRead.Failed) }
+    ensures frame { FolderAnswers (result ≡ OpenRead.Failed) (F.view folder.old) (F.view folder.new) }
 {
     let size = if most < PIECE { most } else { PIECE };
     match vec![in alloc; 0u8; size] {
@@ -101,15 +94,12 @@ fn as_file(answer: OpenRead) -> FileRead
     }
 }
 
-/// All bytes of the node that the path names at one step of the call, or its first `most` bytes, read through one open number.
+/// All bytes, or the first `most`, that the node which the path names at one state of the call has at that state or a later one; read through one open number.
 pub fn read_file<F: Folder>(alloc: Global, folder: &mut F, path: &Path, most: usize) -> FileRead
-    ensures told { F.told folder.old → F.told folder.new }
-    ensures token { F.token folder.new ≡ F.token folder.old }
-    ensures waits { F.told folder.old → Waits (F.token folder.old) (F.history folder.old) (F.history folder.new) }
-    ensures opens { F.opens folder.new ≡ F.opens folder.old }
-    ensures reads { F.told folder.old → ReadsFile path.now most result (now (F.history folder.old)) (since (F.history folder.old) (F.history folder.new)) }
+    ensures waits { (F.view folder.old).told → Waits (F.view folder.old) (F.view folder.new) }
+    ensures reads { (F.view folder.old).told → ReadsFile path.now most result (state (F.view folder.old)) (moved (F.view folder.old) (F.view folder.new)) }
     ensures within { FileWithin most result }
-    ensures faults { Faults (F.faults folder.old) (F.faults folder.new) (result ≡ FileRead.Failed) }
+    ensures frame { FolderAnswers (result ≡ FileRead.Failed) (F.view folder.old) (F.view folder.new) }
 {
     match folder.open_file(path) {
         Opened::Opened(number) => {

@@ -1,22 +1,19 @@
-use Rattle.std.proofs.Common.{◌≡◌, ◌-◌, ◌≤◌, Some, length, take, vec_len}
-use Rattle.jl_folder.specs.declared.moves.Node.{Node}
+use Rattle.std.proofs.Common.{◌≡◌, ◌-◌, ◌≤◌, Some, length, vec_len}
 use Rattle.jl_folder.specs.declared.moves.OpenFile.{OpenFile}
-use Rattle.jl_folder.specs.State.{node_at, now, since}
+use Rattle.jl_folder.specs.State.{node_at}
+use Rattle.jl_folder.specs.Views.{FolderAnswers, state}
 use Rattle.jl_folder.specs.Calls.{Waits}
-use Rattle.jl_folder.specs.Reading.{IsUnwritten}
+use Rattle.jl_folder.proofs.NodesKept.{Begins}
 use Rattle.jl_folder.proofs.read.read_pieces.Given as goal
 
 abbrev pub invariant-pieces : goal.invariant-pieces
 invariant-pieces g l =
-    let F = g.F.Folder in
+    let old = g.F.Folder.view l.initial.folder in
+    let new = g.F.Folder.view l.folder in
     record {
-      told : F.told l.initial.folder → F.told l.folder;
-      token : F.token l.folder ≡ F.token l.initial.folder;
-      waits : F.told l.initial.folder → Waits (F.token l.initial.folder) (F.history l.initial.folder) (F.history l.folder);
-      opens : F.opens l.folder ≡ F.opens l.initial.folder;
-      so_far : F.told l.initial.folder → (file : OpenFile) (view : Node) → F.opens l.initial.folder l.number.0 ≡ Some file → node_at (now (F.history l.initial.folder)) file.node ≡ Some view
-          → IsUnwritten file.node (since (F.history l.initial.folder) (F.history l.folder)) → l.bytes.items ≡ take (length l.bytes.items) view.bytes;
-      later : F.faults l.initial.folder ≤ F.faults l.folder;
+      frame : FolderAnswers (⊥) old new;
+      waits : old.told → Waits old new;
+      so_far : old.told → (file : OpenFile) → old.opens l.number.0 ≡ Some file → Begins (node_at (state new) file.node) l.bytes.items;
       within : length l.bytes.items ≤ l.most;
     }
 

@@ -1,6 +1,0 @@
-use Rattle.std.proofs.Common.{drop}
-use Rattle.jl_folder.proofs.ChildLemmas.{ChildrenSoFar}
-use Rattle.jl_folder.proofs.children.children.Given as goal
-
-abbrev pub invariant-loop-entry : goal.invariant-loop-entry
-invariant-loop-entry l = ChildrenSoFar l.places l.path l.names.items (drop l.entry-index l.places)

@@ -1,6 +1,0 @@
-use Rattle.std.proofs.Common.{◌≡◌, ◌++◌, take}
-use Rattle.jl_folder.specs.Scripts.{named_in}
-use Rattle.jl_folder.proofs.memory.add_named.Given as goal
-
-abbrev pub invariant-loop-entry : goal.invariant-loop-entry
-invariant-loop-entry l = l.named.items ≡ l.initial.named.items ++ named_in (take l.entry-index l.moves)

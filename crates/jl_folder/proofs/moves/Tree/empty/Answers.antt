@@ -1,8 +1,0 @@
-use Rattle.std.proofs.Common.{sym, subst}
-use Rattle.jl_folder.specs.State.{IsState}
-use Rattle.jl_folder.specs.Tables.{state_of}
-use Rattle.jl_folder.proofs.EmptyTree.{empty_state}
-use Rattle.jl_folder.proofs.moves.Tree.empty.Goals as goal
-
-pub returns-clause-state : goal.returns-clause-state
-returns-clause-state c = subst (λ t. IsState (state_of t)) (sym c.bare_tree.ensures) empty_state

@@ -1,0 +1,10 @@
+pub mod CallLemmas
+pub mod ChildLemmas
+pub mod DiskLemmas
+pub mod EmptyTree
+pub mod ForeignLemmas
+pub mod LetLemmas
+pub mod OthersLemmas
+pub mod TableLemmas
+pub mod ToldLemmas
+pub mod TreeLemmas

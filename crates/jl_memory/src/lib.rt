@@ -1,0 +1,16 @@
+//! A folder in memory, in which others move between the calls.
+#![tactic(auto)]
+
+mod acts;
+mod calls;
+mod children;
+mod disk;
+mod memory;
+mod opens;
+mod script;
+mod tables;
+mod tree;
+
+pub use memory::MemFolder;
+pub use script::{OtherMoves, Stop, are_foreign};
+pub use tree::{FileList, NodeList, PathList, Tree};
