@@ -10,7 +10,7 @@ use Rattle.jl_folder.specs.declared.moves.Move.TheVariants.{MakeDir, Create, Ren
 use Rattle.jl_folder.specs.State.{State, IsState, place_at, node_at, is_file_place, after}
 use Rattle.jl_folder.specs.Looks.{place_renamed}
 use Rattle.jl_folder.proofs.Looks.{place_at-after}
-use Rattle.jl_folder.proofs.TableLemmas.{path_eq-Decides}
+use Rattle.jl_folder.proofs.PathLemmas.{path_eq-Decides}
 
 -- ---- what is there is one thing
 

@@ -3,11 +3,8 @@ use Rattle.std.proofs.Common.{◌≡◌, ◌⊎◌, inl, inr, ℕ, [], ◌∷◌
 use Rattle.jl_text.specs.Paths.{PathView, path_eq}
 use Rattle.jl_folder.specs.declared.moves.Place.{Place}
 use Rattle.jl_folder.specs.declared.moves.Place.TheVariants.{Folder, File}
-use Rattle.jl_folder.specs.State.{State, IsState, place_at}
-use Rattle.jl_folder.specs.Tables.{state_of}
-use Rattle.jl_folder.specs.Trees.{empty_tree}
-use Rattle.jl_folder.proofs.DiskLemmas.{agrees_start}
-use Rattle.jl_folder.proofs.EmptyTree.{empty_state}
+use Rattle.jl_folder.specs.State.{State, IsState, place_at, bare_state}
+use Rattle.jl_folder.proofs.Bare.{bare_place, bare_is_state}
 use Rattle.jl_entry.specs.Names.{IsStoreFolder, IsBelow, IsOutside, root_of, root_part}
 use Rattle.jl_entry.proofs.NameFacts.{final_below, temp_below, folder_not_outside}
 use Rattle.jl_protocol.specs.Whole.{Answers}
@@ -34,12 +31,12 @@ absent_is_sound root answer s ok one outside folders = record {
 -- ---- the empty folder
 
 -- all that stands in it are the two folders that are always there
-two_folders : (p : PathView) (o : Place) → place_at (state_of empty_tree) p ≡ Some o → ((p ≡ []) ⊎ (p ≡ [] ∷ [])) × (Some o ≡ Some Folder)
+two_folders : (p : PathView) (o : Place) → place_at bare_state p ≡ Some o → ((p ≡ []) ⊎ (p ≡ [] ∷ [])) × (Some o ≡ Some Folder)
 two_folders p o e =
     by_path p [] (λ b. cond b (Some Folder) (cond (path_eq p ([] ∷ [])) (Some Folder) None) ≡ Some o → ((p ≡ []) ⊎ (p ≡ [] ∷ [])) × (Some o ≡ Some Folder))
     (λ is h. (inl is, sym h))
     (λ ne. by_path p ([] ∷ []) (λ b. cond b (Some Folder) None ≡ Some o → ((p ≡ []) ⊎ (p ≡ [] ∷ [])) × (Some o ≡ Some Folder)) (λ is h. (inr is, sym h)) (λ ne' h. absurd (some_not_none _ o h refl)))
-    ((agrees_start empty_tree).place_is p ∙ e)
+    (sym (bare_place p) ∙ e)
 
 -- neither is at or below the root of a location
 not_below : (location p : PathView) → (p ≡ []) ⊎ (p ≡ [] ∷ []) → IsBelow (root_of location) p → ⊥
@@ -50,12 +47,12 @@ not_below [] p (inr e) b = let h : [] ∷ [] ≡ root_part ∷ b.0 = sym e ∙ b
 not_below (q ∷ qs) p (inr e) b =
     omega (arith, ap length (sym e ∙ b.1), length-append ((q ∷ qs) ++ root_part ∷ []) b.0, length-append (q ∷ qs) (root_part ∷ []))
 
-pub empty_is_sound : (location : PathView) (answer : Answers) → IsSound (root_of location) answer (state_of empty_tree)
+pub empty_is_sound : (location : PathView) (answer : Answers) → IsSound (root_of location) answer bare_state
 empty_is_sound location answer =
-    absent_is_sound (root_of location) answer (state_of empty_tree) empty_state
+    absent_is_sound (root_of location) answer bare_state bare_is_state
     (λ p q n e f. absurd (no_file p n e))
     (λ p n e. absurd (no_file p n e))
     (λ p e below. absurd (not_below location p (two_folders p Folder e).0 below))
   where
-    no_file : (p : PathView) (n : ℕ) → place_at (state_of empty_tree) p ≡ Some (File n) → ⊥
+    no_file : (p : PathView) (n : ℕ) → place_at bare_state p ≡ Some (File n) → ⊥
     no_file p n e = file_not_folder (Some (File n)) n refl (two_folders p (File n) e).1

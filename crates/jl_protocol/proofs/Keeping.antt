@@ -1,15 +1,13 @@
 -- Proper steps keep an opened final node's bytes, whoever makes them.
-use Rattle.std.proofs.Common.{◌≡◌, ◌≢◌, inl, inr, ⊎_elim, ℕ, List, [], ◌∷◌, None, Some, refl, sym, ap, subst, ◌∙◌, true≢false}
+use Rattle.std.proofs.Common.{◌≡◌, ◌≢◌, inl, inr, ⊎_elim, ℕ, List, None, Some, refl, sym, ap, subst, ◌∙◌, true≢false}
 use Rattle.jl_text.specs.Paths.{PathView}
 use Rattle.jl_folder.specs.declared.moves.Place.TheVariants.{File}
 use Rattle.jl_folder.specs.declared.moves.Node.{Node}
 use Rattle.jl_folder.specs.declared.moves.Move.{Move}
 use Rattle.jl_folder.specs.declared.moves.Move.TheVariants.{MakeDir, Create, Append, Rename, Remove, RemoveDir}
-use Rattle.jl_folder.specs.Reading.{Spares, IsUnwritten}
-use Rattle.jl_folder.specs.State.{State, Trace, Allowed, IsTrace, place_at, node_at, frozen_node, after}
+use Rattle.jl_folder.specs.State.{State, Allowed, place_at, node_at, frozen_node, after}
 use Rattle.jl_entry.specs.Names.{Final, IsFinal, IsBelow}
 use Rattle.jl_entry.proofs.NameFacts.{final_below}
-use Rattle.jl_rely.specs.Steps.{AllSteps}
 use Rattle.jl_rely.proofs.Effects.{created_nodes, appended_nodes, renamed_node, renamed_nodes}
 use Rattle.jl_rely.proofs.Traces.{IsCarried}
 use Rattle.jl_protocol.specs.Whole.{IsWhole}
@@ -64,28 +62,7 @@ module _ (root : PathView) (n : ℕ) (bytes : List ℕ) (other : List ℕ) (s : 
   stays_kept (Remove p) may proper = record { node = kept.node; is = kept.is; frozen = kept.frozen; same = kept.same; inside = λ q e. kept.inside q (removed_places s other p q (File n) e).1 }
   stays_kept (RemoveDir p) may proper = record { node = kept.node; is = kept.is; frozen = kept.frozen; same = kept.same; inside = λ q e. kept.inside q (unmade_places s other p q (File n) e).1 }
 
-  -- a proper step adds nothing to the node
-  pub spares_kept : (m : Move) → IsProper root other s m → Spares n m
-  unfolding IsProperInside IsProperOutside
-  spares_kept (MakeDir p) proper = tt
-  spares_kept (Create p m) proper = tt
-  spares_kept (Append m more) (inl own) = λ e. not_open m own (sym e)
-  spares_kept (Append m more) (inr (inl named)) = λ e. named.1.0 (kept.inside named.0 (renumber _ m n e named.2))
-  spares_kept (Append m more) (inr (inr own)) = λ e. not_open m own (sym e)
-  spares_kept (Rename p q) proper = tt
-  spares_kept (Remove p) proper = tt
-  spares_kept (RemoveDir p) proper = tt
-
--- where all steps are proper nobody writes to the node
-pub kept_unwritten : (root : PathView) (n : ℕ) (bytes : List ℕ) (s : State) (es : Trace) → IsKept root n bytes s → IsTrace s es → AllSteps (IsProper root) s es → IsUnwritten n es
-unfolding AllSteps
-kept_unwritten root n bytes s [] kept may all = tt
-kept_unwritten root n bytes s (e ∷ es) kept may all = (
-  spares_kept root n bytes e.0 s kept e.1 all.0,
-  kept_unwritten root n bytes (after s e) es (stays_kept root n bytes e.0 s kept e.1 may.0 all.0) may.1 all.1,
-)
-
--- the same for a call's claim
+-- whoever makes it
 pub kept_carried : (root : PathView) (n : ℕ) (bytes : List ℕ) → IsCarried (IsProper root) (IsKept root n bytes)
 kept_carried root n bytes t s m may proper kept = stays_kept root n bytes t s kept m may proper
 

@@ -1,9 +1,7 @@
 // What proper and lawful moves keep, whatever the order in which runs make them.
 ghost use Rattle.std.specs.Prelude.{◌≡◌, ◌++◌, List, ℕ, Some};
 ghost use Rattle.jl_text.specs.Paths.{PathView};
-ghost use Rattle.jl_folder.specs.State.{State, Trace, IsState, Allowed, IsTrace, place_at, after, run};
-ghost use Rattle.jl_folder.specs.Tables.{state_of};
-ghost use Rattle.jl_folder.specs.Trees.{empty_tree};
+ghost use Rattle.jl_folder.specs.State.{State, Trace, IsState, Allowed, IsTrace, place_at, bare_state, after, run};
 ghost use Rattle.jl_folder.specs.declared.moves.Move.{Move};
 ghost use Rattle.jl_folder.specs.declared.moves.Place.{Place};
 ghost use Rattle.jl_entry.specs.Codes.{IsSameCode};
@@ -30,7 +28,7 @@ pub fn absent_roots_are_sound()
         ((p q : PathView) (n : ℕ) → place_at s p ≡ Some (Place.File n) → place_at s q ≡ Some (Place.File n) → p ≡ q) →
         ((p : PathView) (n : ℕ) → place_at s p ≡ Some (Place.File n) → IsOutside root p) →
         ((p : PathView) → place_at s p ≡ Some Place.Folder → IsBelow root p → IsStoreFolder root p) → IsSound root answer s }
-    ensures empty { (location : PathView) (answer : Answers) → IsSound (root_of location) answer (state_of empty_tree) }
+    ensures empty { (location : PathView) (answer : Answers) → IsSound (root_of location) answer bare_state }
 {}
 
 /// Where each run's moves are lawful wherever all moves before them are, every move is lawful and every state is sound.

@@ -8,7 +8,7 @@ use Rattle.jl_folder.specs.declared.moves.Move.TheVariants.{MakeDir, Create, App
 use Rattle.jl_folder.specs.State.{State, place_at, node_at, new_node, appended, frozen_node, after}
 use Rattle.jl_folder.specs.Looks.{place_renamed, node_renamed}
 use Rattle.jl_folder.proofs.Looks.{place_at-after, node_at-after}
-use Rattle.jl_folder.proofs.TableLemmas.{path_eq-Decides, path_eq-same}
+use Rattle.jl_folder.proofs.PathLemmas.{path_eq-Decides, path_eq-same}
 
 pub apart_eq : (p q : PathView) → p ≢ q → path_eq p q ≡ false
 apart_eq p q ne = elim (path_eq p q) as (λ b. path_eq p q ≡ b → b ≡ false) [ true ↦ λ e. absurd (ne ((path_eq-Decides p q).0 e)) | false ↦ λ e. refl ] refl

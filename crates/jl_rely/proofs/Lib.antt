@@ -2,7 +2,9 @@ pub mod Alone
 pub mod Causes
 pub mod Composed
 pub mod Effects
+pub mod Moving
 pub mod Prefixes
+pub mod Seen
 pub mod Since
 pub mod Touched
 pub mod Traces

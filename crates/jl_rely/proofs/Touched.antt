@@ -10,7 +10,7 @@ use Rattle.jl_folder.specs.declared.moves.Move.TheVariants.{MakeDir, Create, App
 use Rattle.jl_folder.specs.State.{State, Event, Trace, IsForeign, place_at, after, run}
 use Rattle.jl_folder.specs.Looks.{place_after, place_renamed}
 use Rattle.jl_folder.proofs.Looks.{place_at-after}
-use Rattle.jl_folder.proofs.TableLemmas.{path_eq-Decides}
+use Rattle.jl_folder.proofs.PathLemmas.{path_eq-Decides}
 use Rattle.jl_rely.specs.Steps.{OwnMoves}
 use Rattle.jl_rely.specs.Touches.{Touches, TouchedByOther}
 use Rattle.jl_rely.proofs.Traces.{foreign_own}

@@ -40,17 +40,3 @@ pub struct AnyState;
 impl StateClaim for AnyState {
     ghost holds = { λ s. ⊤ };
 }
-
-/// Nothing is claimed of a move.
-pub struct AnyMove;
-
-impl MoveClaim for AnyMove {
-    ghost holds = { λ change. ⊤ };
-}
-
-/// Nothing is claimed of an answer.
-pub struct AnyAnswer;
-
-impl AnswerClaim for AnyAnswer {
-    ghost holds = { λ s own. ⊤ };
-}

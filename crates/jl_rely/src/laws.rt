@@ -1,7 +1,8 @@
 // What claims on steps mean, and how calls compose.
 ghost use Rattle.std.specs.Prelude.{◌≡◌, ◌⊎◌, ◌↔◌, ◌++◌, List, ℕ};
 ghost use Rattle.jl_text.specs.Paths.{PathView};
-ghost use Rattle.jl_folder.specs.State.{State, Event, Trace, History, Allowed, IsTrace, IsForeign, place_at, now, since, after, run};
+ghost use Rattle.jl_folder.specs.State.{State, Event, Trace, Allowed, IsTrace, IsForeign, place_at, after, run};
+ghost use Rattle.jl_folder.specs.Views.{state, moved};
 ghost use Rattle.jl_folder.specs.Calls.{Call, Waits};
 ghost use Rattle.jl_folder.specs.declared.moves.Move.{Move};
 ghost use Rattle.jl_rely.specs.Steps.{AllSteps, Throughout, WhereverBefore, IsLone};
@@ -10,6 +11,7 @@ ghost use Rattle.jl_rely.specs.Lone.{MovesAlone};
 ghost use Rattle.jl_rely.specs.Touches.{Touches, TouchedByOther};
 
 use crate::claim::{AnswerClaim, MoveClaim, StateClaim, StepClaim};
+use jl_folder::Folder;
 
 /// What is owed throughout a call, told by prefixes: each own move has it wherever all moves before it have what is given.
 pub fn throughout_is_by_prefixes<G: StepClaim, O: StepClaim>()
@@ -28,6 +30,7 @@ pub fn runs_compose<P: StepClaim, I: StateClaim>()
 
 /// Two calls one after the other are one call: what the first leaves is what the second begins with.
 pub fn calls_compose<
+    F: Folder,
     G: StepClaim,
     O: StepClaim,
     K: MoveClaim,
@@ -35,10 +38,10 @@ pub fn calls_compose<
     M: StateClaim,
     E: StateClaim,
 >()
-    ensures { (token : List ℕ) (old mid new : History) →
-        Called G.holds O.holds token K.holds B.holds M.holds old mid →
-        Called G.holds O.holds token K.holds M.holds E.holds mid new →
-        Called G.holds O.holds token K.holds B.holds E.holds old new }
+    ensures { (old mid new : F) →
+        Called G.holds O.holds K.holds B.holds M.holds (F.view old) (F.view mid) →
+        Called G.holds O.holds K.holds M.holds E.holds (F.view mid) (F.view new) →
+        Called G.holds O.holds K.holds B.holds E.holds (F.view old) (F.view new) }
 {}
 
 /// What a path names changes only by a move that makes or removes that name.
@@ -49,7 +52,7 @@ pub fn look_ups_change_by_touches()
 {}
 
 /// Where no other moved, a call's own move was made in the state at its entry, and a wait changed nothing.
-pub fn lone_calls<A: AnswerClaim>()
-    ensures call { (token : List ℕ) (old new : History) → Call token old new A.holds → IsLone token (since old new) → MovesAlone token old new A.holds }
-    ensures waits { (token : List ℕ) (old new : History) → Waits token old new → IsLone token (since old new) → now new ≡ now old }
+pub fn lone_calls<F: Folder, A: AnswerClaim>()
+    ensures call { (old new : F) → Call (F.view old) (F.view new) A.holds → IsLone (F.view old).token (moved (F.view old) (F.view new)) → MovesAlone (F.view old) (F.view new) A.holds }
+    ensures waits { (old new : F) → Waits (F.view old) (F.view new) → IsLone (F.view old).token (moved (F.view old) (F.view new)) → state (F.view new) ≡ state (F.view old) }
 {}

@@ -4,9 +4,7 @@
 mod claim;
 mod laws;
 
-pub use claim::{
-    AnswerClaim, AnyAnswer, AnyMove, AnyState, AnyStep, MoveClaim, StateClaim, StepClaim,
-};
+pub use claim::{AnswerClaim, AnyState, AnyStep, MoveClaim, StateClaim, StepClaim};
 pub use laws::{
     calls_compose, lone_calls, look_ups_change_by_touches, runs_compose, throughout_is_by_prefixes,
 };
