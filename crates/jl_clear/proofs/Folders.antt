@@ -1,4 +1,4 @@
--- Which names stand in which folder of a tidy store.
+-- Which names of the store stand in which of its folders.
 use Rattle.std.proofs.Common.{◌≡◌, ◌≢◌, ◌⊎◌, inl, inr, ℕ, ◌≤◌, List, [], ◌∷◌, ◌++◌, false, None, Some, true≢false, refl, sym, ap, subst, ◌∙◌, arith, length, append_assoc, append-nil, length-append}
 use Rattle.std.specs.Prelude.{IsTrue}
 use Rattle.std.specs.Option.{option_map_or}
@@ -10,11 +10,12 @@ use Rattle.jl_folder.specs.declared.moves.Place.TheVariants.{Folder, File}
 use Rattle.jl_folder.specs.State.{State, place_at, is_folder, is_file, is_folder_place, is_file_place}
 use Rattle.jl_entry.specs.declared.names.EntryFile.{EntryFile}
 use Rattle.jl_entry.specs.declared.names.EntryFile.TheVariants.{Output, Metadata, Access}
-use Rattle.jl_entry.specs.Names.{Final, code_of, entry_of, IsFinal, IsTemp, IsStoreName, IsStoreFolder, IsFolderParts, IsOnWay, IsBelow, below, final_parts, temp_parts, is_key, code_part, entry_part, suffix, IsEntryName, IsFunctionFolder, IsCodeName, IsKeyName, IsNameOf, IsModuleFolder, IsEntryFolder}
+use Rattle.jl_entry.specs.Names.{Final, code_of, entry_of, IsFormed, IsFinal, IsTemp, IsStoreName, IsStoreFolder, IsFolderParts, IsOnWay, IsBelow, below, final_parts, temp_parts, is_key, code_part, entry_part, suffix, IsEntryName, IsFunctionFolder, IsCodeName, IsKeyName, IsNameOf, IsModuleFolder, IsEntryFolder}
 use Rattle.jl_entry.proofs.NameFacts.{final_not_folder, temp_not_folder, final_below, temp_below}
 use Rattle.jl_rely.proofs.Causes.{place_none}
 use Rattle.jl_protocol.specs.Tidy.{IsTidy}
-use Rattle.jl_clear.specs.Clearing.{IsPlace}
+use Rattle.jl_clear.specs.Taking.{IsInside, IsOfStore}
+use Rattle.jl_clear.specs.Clearing.{IsPlace, IsBehind, IsFunctionPart}
 use Rattle.jl_clear.proofs.Paths.{free_named}
 
 -- ---- forms of names are not empty
@@ -45,6 +46,10 @@ pub entry_there : (part : List ℕ) → IsEntryName part → part ≢ []
 entry_there part (file, inl is) e = let h : [] ≡ entry_part file = sym e ∙ is in omega (arith, ap length h, entry_long file)
 entry_there part (file, inr is) e = let h : [] ≡ entry_part file ++ suffix is.0 = sym e ∙ is.2 in omega (arith, ap length h, entry_long file, length-append (entry_part file) (suffix is.0))
 
+pub function_there : (part : List ℕ) → IsFunctionPart part → part ≢ []
+function_there part (inl key) = key_there part key
+function_there part (inr code) = code_there part code
+
 -- ---- the folders of a folder, and its files
 
 pub module_in : (root : PathView) (part : List ℕ) → IsNameOf part → IsModuleFolder root (root ++ part ∷ [])
@@ -56,20 +61,17 @@ function_in root folder part of is = (of.0, part, of.1, is, ap (λ (q : PathView
 pub entry_in : (root folder : PathView) (part : List ℕ) → IsFunctionFolder root folder → IsKeyName part → IsEntryFolder root (folder ++ part ∷ [])
 entry_in root folder part of is = (of.0, of.1, part, of.2, of.3, is, ap (λ (q : PathView). q ++ part ∷ []) of.4 ∙ append_assoc root (of.0 ∷ of.1 ∷ []) (part ∷ []))
 
-module_path : (root folder : PathView) (part : List ℕ) (of : IsModuleFolder root folder) → folder ++ part ∷ [] ≡ below root (of.0 ∷ part ∷ [])
-module_path root folder part of = ap (λ (q : PathView). q ++ part ∷ []) of.2 ∙ append_assoc root (of.0 ∷ []) (part ∷ [])
-
-function_path : (root folder : PathView) (part : List ℕ) (of : IsFunctionFolder root folder) → folder ++ part ∷ [] ≡ below root (of.0 ∷ of.1 ∷ part ∷ [])
-function_path root folder part of = ap (λ (q : PathView). q ++ part ∷ []) of.4 ∙ append_assoc root (of.0 ∷ of.1 ∷ []) (part ∷ [])
+function_path : (root folder rest : PathView) (of : IsFunctionFolder root folder) → folder ++ rest ≡ below root (of.0 ∷ of.1 ∷ rest)
+function_path root folder rest of = ap (λ (q : PathView). q ++ rest) of.4 ∙ append_assoc root (of.0 ∷ of.1 ∷ []) rest
 
 entry_path : (root folder rest : PathView) (of : IsEntryFolder root folder) → folder ++ rest ≡ below root (of.0 ∷ of.1 ∷ of.2 ∷ rest)
 entry_path root folder rest of = ap (λ (q : PathView). q ++ rest) of.6 ∙ append_assoc root (of.0 ∷ of.1 ∷ of.2 ∷ []) rest
 
 pub code_name : (root folder : PathView) (part : List ℕ) → IsFunctionFolder root folder → IsCodeName part → IsStoreName root (folder ++ part ∷ [])
 code_name root folder part of (inl is) =
-    inl (code_of of.0 of.1, record { formed = (of.2, of.3); is = function_path root folder part of ∙ ap (λ (w : List ℕ). below root (of.0 ∷ of.1 ∷ w ∷ [])) is })
+    inl (code_of of.0 of.1, record { formed = (of.2, of.3); is = function_path root folder (part ∷ []) of ∙ ap (λ (w : List ℕ). below root (of.0 ∷ of.1 ∷ w ∷ [])) is })
 code_name root folder part of (inr is) =
-    inr (code_of of.0 of.1, is.0, record { formed = (of.2, of.3); of_token = is.1; is = function_path root folder part of ∙ ap (λ (w : List ℕ). below root (of.0 ∷ of.1 ∷ w ∷ [])) is.2 })
+    inr (code_of of.0 of.1, is.0, record { formed = (of.2, of.3); of_token = is.1; is = function_path root folder (part ∷ []) of ∙ ap (λ (w : List ℕ). below root (of.0 ∷ of.1 ∷ w ∷ [])) is.2 })
 
 pub entry_name : (root folder : PathView) (part : List ℕ) → IsEntryFolder root folder → IsEntryName part → IsStoreName root (folder ++ part ∷ [])
 entry_name root folder part of (file, inl is) =
@@ -101,7 +103,7 @@ function_place_long root folder of = omega (arith, ap length of.4, length-append
 pub entry_place_long : (root folder : PathView) → IsEntryFolder root folder → 1 ≤ length folder
 entry_place_long root folder of = omega (arith, ap length of.6, length-append root (of.0 ∷ of.1 ∷ of.2 ∷ []))
 
--- ---- what names stand in them
+-- ---- what of the store stands in them
 
 -- a folder of the store below the root has its parts
 folder_parts : (root : PathView) (a : List ℕ) (rest q : PathView) → q ≡ below root (a ∷ rest) → IsStoreFolder root q → IsFolderParts (a ∷ rest)
@@ -109,117 +111,133 @@ unfolding IsStoreFolder IsOnWay
 folder_parts root a rest q e (inl way) = absurd (omega (arith, ap length way.1, ap length e, length-append q way.0, length-append root (a ∷ rest)))
 folder_parts root a rest q e (inr (parts, formed, is)) = subst IsFolderParts (append_cancel_left root parts (a ∷ rest) (sym is ∙ e)) formed
 
--- where a name of the store stands
-name_parts : (root parts q : PathView) → q ≡ below root parts → IsStoreName root q → ((x : Final) × (parts ≡ final_parts x)) ⊎ ((x : Final) × (token : List ℕ) × IsTrue (is_token token) × (parts ≡ temp_parts x token))
-name_parts root parts q e (inl (x, final)) = inl (x, append_cancel_left root parts (final_parts x) (sym e ∙ final.is))
-name_parts root parts q e (inr (x, token, temp)) = inr (x, token, temp.of_token, append_cancel_left root parts (temp_parts x token) (sym e ∙ temp.is))
+-- the parts of a folder, of a final name or of a temporary one
+abbrev IsStoreParts : PathView → Type 0
+IsStoreParts parts =
+    IsFolderParts parts ⊎ (((x : Final) × IsFormed x × (parts ≡ final_parts x)) ⊎ ((x : Final) × (token : List ℕ) × IsFormed x × IsTrue (is_token token) × (parts ≡ temp_parts x token)))
 
--- what stands right below the root at some parts
-stands_as : (root : PathView) (a : List ℕ) (rest q : PathView) (place : Place) (s : State) → IsTidy root s → q ≡ below root (a ∷ rest) → place_at s q ≡ Some place → IsFolderParts (a ∷ rest) ⊎ (((x : Final) × (a ∷ rest ≡ final_parts x)) ⊎ ((x : Final) × (token : List ℕ) × IsTrue (is_token token) × (a ∷ rest ≡ temp_parts x token)))
+store_parts : (root : PathView) (a : List ℕ) (rest q : PathView) → q ≡ below root (a ∷ rest) → IsOfStore root q → IsStoreParts (a ∷ rest)
+store_parts root a rest q e (inl (inl (x, final))) = inr (inl (x, final.formed, append_cancel_left root (a ∷ rest) (final_parts x) (sym e ∙ final.is)))
+store_parts root a rest q e (inl (inr (x, token, temp))) = inr (inr (x, token, temp.formed, temp.of_token, append_cancel_left root (a ∷ rest) (temp_parts x token) (sym e ∙ temp.is)))
+store_parts root a rest q e (inr folder) = inl (folder_parts root a rest q e folder)
+
+-- the first is a name
+first_part : (a : List ℕ) (rest : PathView) → IsStoreParts (a ∷ rest) → IsNameOf a
+first_part a [] (inl formed) = formed
+first_part a (b ∷ []) (inl formed) = formed.0
+first_part a (b ∷ c ∷ []) (inl formed) = formed.0
+first_part a (b ∷ c ∷ d ∷ rest) (inl formed) = absurd formed
+first_part a rest (inr (inl (code_of m f, formed, e))) = let same : a ≡ m = cc in subst IsNameOf (sym same) formed.0
+first_part a rest (inr (inl (entry_of w m f k, formed, e))) = let same : a ≡ m = cc in subst IsNameOf (sym same) formed.0
+first_part a rest (inr (inr (code_of m f, t, formed, ok, e))) = let same : a ≡ m = cc in subst IsNameOf (sym same) formed.0
+first_part a rest (inr (inr (entry_of w m f k, t, formed, ok, e))) = let same : a ≡ m = cc in subst IsNameOf (sym same) formed.0
+
+-- the second too
+second_part : (a b : List ℕ) (rest : PathView) → IsStoreParts (a ∷ b ∷ rest) → IsNameOf b
+second_part a b [] (inl formed) = formed.1
+second_part a b (c ∷ []) (inl formed) = formed.1
+second_part a b (c ∷ d ∷ rest) (inl formed) = absurd formed
+second_part a b rest (inr (inl (code_of m f, formed, e))) = let same : b ≡ f = cc in subst IsNameOf (sym same) formed.1
+second_part a b rest (inr (inl (entry_of w m f k, formed, e))) = let same : b ≡ f = cc in subst IsNameOf (sym same) formed.1
+second_part a b rest (inr (inr (code_of m f, t, formed, ok, e))) = let same : b ≡ f = cc in subst IsNameOf (sym same) formed.1
+second_part a b rest (inr (inr (entry_of w m f k, t, formed, ok, e))) = let same : b ≡ f = cc in subst IsNameOf (sym same) formed.1
+
+-- the third is a key, or of the code's file
+third_part : (a b c : List ℕ) (rest : PathView) → IsStoreParts (a ∷ b ∷ c ∷ rest) → IsFunctionPart c
+third_part a b c [] (inl formed) = inl formed.2
+third_part a b c (d ∷ rest) (inl formed) = absurd formed
+third_part a b c rest (inr (inl (code_of m f, formed, e))) = inr (inl cc)
+third_part a b c rest (inr (inl (entry_of w m f k, formed, e))) = let same : c ≡ k = cc in inl (subst IsKeyName (sym same) formed.2)
+third_part a b c rest (inr (inr (code_of m f, t, formed, ok, e))) = inr (inr (t, ok, cc))
+third_part a b c rest (inr (inr (entry_of w m f k, t, formed, ok, e))) = let same : c ≡ k = cc in inl (subst IsKeyName (sym same) formed.2)
+
+-- the fourth is of a file of an entry
+fourth_part : (a b c d : List ℕ) (rest : PathView) → IsStoreParts (a ∷ b ∷ c ∷ d ∷ rest) → IsEntryName d
+fourth_part a b c d rest (inl formed) = absurd formed
+fourth_part a b c d rest (inr (inl (code_of m f, formed, e))) = cc
+fourth_part a b c d rest (inr (inl (entry_of w m f k, formed, e))) = (w, inl cc)
+fourth_part a b c d rest (inr (inr (code_of m f, t, formed, ok, e))) = cc
+fourth_part a b c d rest (inr (inr (entry_of w m f k, t, formed, ok, e))) = (w, inr (t, ok, cc))
+
+-- and stands in an entry's folder
+front_parts : (a b c d : List ℕ) (rest : PathView) → IsStoreParts (a ∷ b ∷ c ∷ d ∷ rest) → IsFolderParts (a ∷ b ∷ c ∷ [])
+front_parts a b c d rest (inl formed) = absurd formed
+front_parts a b c d rest (inr (inl (code_of m f, formed, e))) = cc
+front_parts a b c d rest (inr (inl (entry_of w m f k, formed, e))) = let same : m ∷ f ∷ k ∷ [] ≡ a ∷ b ∷ c ∷ [] = cc in subst IsFolderParts same formed
+front_parts a b c d rest (inr (inr (code_of m f, t, formed, ok, e))) = cc
+front_parts a b c d rest (inr (inr (entry_of w m f k, t, formed, ok, e))) = let same : m ∷ f ∷ k ∷ [] ≡ a ∷ b ∷ c ∷ [] = cc in subst IsFolderParts same formed
+
+-- there is no fifth
+no_fifth : (a b c d f : List ℕ) (rest : PathView) → IsStoreParts (a ∷ b ∷ c ∷ d ∷ f ∷ rest) → ⊥
+no_fifth a b c d f rest (inl formed) = formed
+no_fifth a b c d f rest (inr (inl (code_of m g, formed, e))) = cc
+no_fifth a b c d f rest (inr (inl (entry_of w m g k, formed, e))) = cc
+no_fifth a b c d f rest (inr (inr (code_of m g, t, formed, ok, e))) = cc
+no_fifth a b c d f rest (inr (inr (entry_of w m g k, t, formed, ok, e))) = cc
+
+module_path : (root folder : PathView) (part : List ℕ) (rest : PathView) (of : IsModuleFolder root folder) → folder ++ part ∷ rest ≡ below root (of.0 ∷ part ∷ rest)
+module_path root folder part rest of = ap (λ (q : PathView). q ++ part ∷ rest) of.2 ∙ append_assoc root (of.0 ∷ []) (part ∷ rest)
+
+pub root_inner : (root p : PathView) → IsInside root p → IsOfStore root p → IsBehind IsNameOf root p
+root_inner root p (part, rest, e) is = (part, rest, first_part part rest (store_parts root part rest p e is), e)
+
+module _ (root folder p : PathView) where
+  pub module_inner : IsModuleFolder root folder → IsInside folder p → IsOfStore root p → IsBehind IsNameOf folder p
+  module_inner of (part, rest, e) is = (part, rest, second_part of.0 part rest (store_parts root of.0 (part ∷ rest) p (e ∙ module_path root folder part rest of) is), e)
+
+  pub function_inner : IsFunctionFolder root folder → IsInside folder p → IsOfStore root p → IsBehind IsFunctionPart folder p
+  function_inner of (part, rest, e) is = (part, rest, third_part of.0 of.1 part rest (store_parts root of.0 (of.1 ∷ part ∷ rest) p (e ∙ function_path root folder (part ∷ rest) of) is), e)
+
+  pub entry_inner : IsEntryFolder root folder → IsInside folder p → IsOfStore root p → IsBehind IsEntryName folder p
+  entry_inner of (part, rest, e) is = (part, rest, fourth_part of.0 of.1 of.2 part rest (store_parts root of.0 (of.1 ∷ of.2 ∷ part ∷ rest) p (e ∙ entry_path root folder (part ∷ rest) of) is), e)
+
+-- nothing of the store stands below a name of it
+below_parts : (root p : PathView) (x y : List ℕ) (ys : PathView) (a b : List ℕ) → p ≡ below root (a ∷ b ∷ x ∷ []) → (IsStoreFolder root p → ⊥) → IsOfStore root (p ++ y ∷ ys) → ⊥
+unfolding IsStoreFolder
+below_parts root p x y ys a b is no_folder of =
+    let there : p ++ y ∷ ys ≡ below root (a ∷ b ∷ x ∷ y ∷ ys) = ap (λ (q : PathView). q ++ y ∷ ys) is ∙ append_assoc root (a ∷ b ∷ x ∷ []) (y ∷ ys) in
+    no_folder (inr (a ∷ b ∷ x ∷ [], front_parts a b x y ys (store_parts root a (b ∷ x ∷ y ∷ ys) (p ++ y ∷ ys) there of), is))
+
+deep_parts : (root p : PathView) (a b c d y : List ℕ) (ys : PathView) → p ≡ below root (a ∷ b ∷ c ∷ d ∷ []) → IsOfStore root (p ++ y ∷ ys) → ⊥
+deep_parts root p a b c d y ys is of =
+    no_fifth a b c d y ys (store_parts root a (b ∷ c ∷ d ∷ y ∷ ys) (p ++ y ∷ ys) (ap (λ (q : PathView). q ++ y ∷ ys) is ∙ append_assoc root (a ∷ b ∷ c ∷ d ∷ []) (y ∷ ys)) of)
+
+name_bare : (root p : PathView) (y : List ℕ) (ys : PathView) → IsStoreName root p → IsOfStore root (p ++ y ∷ ys) → ⊥
+name_bare root p y ys (inl (code_of m f, final)) of = below_parts root p code_part y ys m f final.is (final_not_folder root (code_of m f) p final) of
+name_bare root p y ys (inl (entry_of w m f k, final)) of = deep_parts root p m f k (entry_part w) y ys final.is of
+name_bare root p y ys (inr (code_of m f, t, temp)) of = below_parts root p (code_part ++ suffix t) y ys m f temp.is (temp_not_folder root (code_of m f) t p temp) of
+name_bare root p y ys (inr (entry_of w m f k, t, temp)) of = deep_parts root p m f k (entry_part w ++ suffix t) y ys temp.is of
+
+pub below_name : (root p q : PathView) → IsStoreName root p → IsBelow p q → IsOfStore root q → q ≡ p
 unfolding IsBelow
-stands_as root a rest q Folder s tidy e is = inl (folder_parts root a rest q e (tidy.folders q is (a ∷ rest, e)))
-stands_as root a rest q (File n) s tidy e is = inr (name_parts root (a ∷ rest) q e (tidy.names q n is (a ∷ rest, e)))
+below_name root p q name ([], e) of = e ∙ append-nil p
+below_name root p q name (y ∷ ys, e) of = absurd (name_bare root p y ys name (subst (IsOfStore root) e of))
 
-one_not_final : (a : List ℕ) (x : Final) → a ∷ [] ≡ final_parts x → ⊥
-one_not_final a (code_of m f) e = cc
-one_not_final a (entry_of w m f k) e = cc
+-- a name of the store is none of its folders
+pub name_not_folder : (root p : PathView) → IsStoreName root p → IsStoreFolder root p → ⊥
+name_not_folder root p (inl (x, final)) folder = final_not_folder root x p final folder
+name_not_folder root p (inr (x, token, temp)) folder = temp_not_folder root x token p temp folder
 
-one_not_temp : (a : List ℕ) (x : Final) (t : List ℕ) → a ∷ [] ≡ temp_parts x t → ⊥
-one_not_temp a (code_of m f) t e = cc
-one_not_temp a (entry_of w m f k) t e = cc
-
-two_not_final : (a b : List ℕ) (x : Final) → a ∷ b ∷ [] ≡ final_parts x → ⊥
-two_not_final a b (code_of m f) e = cc
-two_not_final a b (entry_of w m f k) e = cc
-
-two_not_temp : (a b : List ℕ) (x : Final) (t : List ℕ) → a ∷ b ∷ [] ≡ temp_parts x t → ⊥
-two_not_temp a b (code_of m f) t e = cc
-two_not_temp a b (entry_of w m f k) t e = cc
-
-three_final : (a b c : List ℕ) (x : Final) → a ∷ b ∷ c ∷ [] ≡ final_parts x → c ≡ code_part
-three_final a b c (code_of m f) e = cc
-three_final a b c (entry_of w m f k) e = cc
-
-three_temp : (a b c : List ℕ) (x : Final) (t : List ℕ) → a ∷ b ∷ c ∷ [] ≡ temp_parts x t → c ≡ code_part ++ suffix t
-three_temp a b c (code_of m f) t e = cc
-three_temp a b c (entry_of w m f k) t e = cc
-
-four_final : (a b c d : List ℕ) (x : Final) → a ∷ b ∷ c ∷ d ∷ [] ≡ final_parts x → (file : EntryFile) × (d ≡ entry_part file)
-four_final a b c d (code_of m f) e = cc
-four_final a b c d (entry_of w m f k) e = (w, cc)
-
-four_temp : (a b c d : List ℕ) (x : Final) (t : List ℕ) → a ∷ b ∷ c ∷ d ∷ [] ≡ temp_parts x t → (file : EntryFile) × (d ≡ entry_part file ++ suffix t)
-four_temp a b c d (code_of m f) t e = cc
-four_temp a b c d (entry_of w m f k) t e = (w, cc)
-
-five_not_final : (a b c d f : List ℕ) (rest : PathView) (x : Final) → a ∷ b ∷ c ∷ d ∷ f ∷ rest ≡ final_parts x → ⊥
-five_not_final a b c d f rest (code_of m g) e = cc
-five_not_final a b c d f rest (entry_of w m g k) e = cc
-
-five_not_temp : (a b c d f : List ℕ) (rest : PathView) (x : Final) (t : List ℕ) → a ∷ b ∷ c ∷ d ∷ f ∷ rest ≡ temp_parts x t → ⊥
-five_not_temp a b c d f rest (code_of m g) t e = cc
-five_not_temp a b c d f rest (entry_of w m g k) t e = cc
+-- a name of the store at or below a folder of it stands inside
+pub name_inside : (root folder p : PathView) → IsStoreFolder root folder → IsBelow folder p → IsStoreName root p → IsInside folder p
+unfolding IsBelow
+name_inside root folder p store ([], e) name = absurd (name_not_folder root p name (subst (IsStoreFolder root) (sym (e ∙ append-nil folder)) store))
+name_inside root folder p store (part ∷ rest, e) name = (part, rest, e)
 
 -- a name of the store at or below an entry's folder is a file's of an entry, right in it
 pub entry_file : (root folder p : PathView) → IsEntryFolder root folder → IsBelow folder p → IsStoreName root p → (part : List ℕ) × IsEntryName part × (p ≡ folder ++ part ∷ [])
 unfolding IsBelow
-entry_file root folder p of ([], e) name = absurd (not_itself name)
-  where
-    itself : IsStoreFolder root p
-    itself = subst (IsStoreFolder root) (sym (e ∙ append-nil folder)) (entry_place root folder of).0
-
-    not_itself : IsStoreName root p → ⊥
-    not_itself (inl (x, final)) = final_not_folder root x p final itself
-    not_itself (inr (x, t, temp)) = temp_not_folder root x t p temp itself
-entry_file root folder p of (part ∷ [], e) name = (part, by_case (name_parts root (of.0 ∷ of.1 ∷ of.2 ∷ part ∷ []) p (e ∙ entry_path root folder (part ∷ []) of) name), e)
-  where
-    by_case : ((x : Final) × (of.0 ∷ of.1 ∷ of.2 ∷ part ∷ [] ≡ final_parts x)) ⊎ ((x : Final) × (token : List ℕ) × IsTrue (is_token token) × (of.0 ∷ of.1 ∷ of.2 ∷ part ∷ [] ≡ temp_parts x token)) → IsEntryName part
-    by_case (inl (x, is)) = let file = four_final of.0 of.1 of.2 part x is in (file.0, inl file.1)
-    by_case (inr (x, t, ok, is)) = let file = four_temp of.0 of.1 of.2 part x t is in (file.0, inr (t, ok, file.1))
-entry_file root folder p of (part ∷ y ∷ ys, e) name = absurd (by_case (name_parts root (of.0 ∷ of.1 ∷ of.2 ∷ part ∷ y ∷ ys) p (e ∙ entry_path root folder (part ∷ y ∷ ys) of) name))
-  where
-    by_case : ((x : Final) × (of.0 ∷ of.1 ∷ of.2 ∷ part ∷ y ∷ ys ≡ final_parts x)) ⊎ ((x : Final) × (token : List ℕ) × IsTrue (is_token token) × (of.0 ∷ of.1 ∷ of.2 ∷ part ∷ y ∷ ys ≡ temp_parts x token)) → ⊥
-    by_case (inl (x, is)) = five_not_final of.0 of.1 of.2 part y ys x is
-    by_case (inr (x, t, ok, is)) = five_not_temp of.0 of.1 of.2 part y ys x t is
+entry_file root folder p of ([], e) name = absurd (name_not_folder root p name (subst (IsStoreFolder root) (sym (e ∙ append-nil folder)) (entry_place root folder of).0))
+entry_file root folder p of (part ∷ [], e) name =
+    (part, fourth_part of.0 of.1 of.2 part [] (store_parts root of.0 (of.1 ∷ of.2 ∷ part ∷ []) p (e ∙ entry_path root folder (part ∷ []) of) (inl name)), e)
+entry_file root folder p of (part ∷ y ∷ ys, e) name =
+    absurd (no_fifth of.0 of.1 of.2 part y ys (store_parts root of.0 (of.1 ∷ of.2 ∷ part ∷ y ∷ ys) p (e ∙ entry_path root folder (part ∷ y ∷ ys) of) (inl name)))
 
 -- and a folder of the store there is that folder
 pub entry_itself : (root folder p : PathView) → IsEntryFolder root folder → IsBelow folder p → IsStoreFolder root p → p ≡ folder
 unfolding IsBelow
 entry_itself root folder p of ([], e) store = e ∙ append-nil folder
 entry_itself root folder p of (x ∷ xs, e) store = absurd (folder_parts root of.0 (of.1 ∷ of.2 ∷ x ∷ xs) p (e ∙ entry_path root folder (x ∷ xs) of) store)
-
-module _ (root : PathView) (s : State) (tidy : IsTidy root s) (part : List ℕ) (place : Place) where
-  pub root_names : place_at s (root ++ part ∷ []) ≡ Some place → IsNameOf part
-  root_names is = by_case (stands_as root part [] (root ++ part ∷ []) place s tidy refl is)
-    where
-      by_case : IsFolderParts (part ∷ []) ⊎ (((x : Final) × (part ∷ [] ≡ final_parts x)) ⊎ ((x : Final) × (token : List ℕ) × IsTrue (is_token token) × (part ∷ [] ≡ temp_parts x token))) → IsNameOf part
-      by_case (inl formed) = formed
-      by_case (inr (inl (x, e))) = absurd (one_not_final part x e)
-      by_case (inr (inr (x, t, ok, e))) = absurd (one_not_temp part x t e)
-
-  pub module_names : (folder : PathView) → IsModuleFolder root folder → place_at s (folder ++ part ∷ []) ≡ Some place → IsNameOf part
-  module_names folder of is = by_case (stands_as root of.0 (part ∷ []) (folder ++ part ∷ []) place s tidy (module_path root folder part of) is)
-    where
-      by_case : IsFolderParts (of.0 ∷ part ∷ []) ⊎ (((x : Final) × (of.0 ∷ part ∷ [] ≡ final_parts x)) ⊎ ((x : Final) × (token : List ℕ) × IsTrue (is_token token) × (of.0 ∷ part ∷ [] ≡ temp_parts x token))) → IsNameOf part
-      by_case (inl formed) = formed.1
-      by_case (inr (inl (x, e))) = absurd (two_not_final of.0 part x e)
-      by_case (inr (inr (x, t, ok, e))) = absurd (two_not_temp of.0 part x t e)
-
-  pub function_names : (folder : PathView) → IsFunctionFolder root folder → place_at s (folder ++ part ∷ []) ≡ Some place → IsKeyName part ⊎ IsCodeName part
-  function_names folder of is = by_case (stands_as root of.0 (of.1 ∷ part ∷ []) (folder ++ part ∷ []) place s tidy (function_path root folder part of) is)
-    where
-      by_case : IsFolderParts (of.0 ∷ of.1 ∷ part ∷ []) ⊎ (((x : Final) × (of.0 ∷ of.1 ∷ part ∷ [] ≡ final_parts x)) ⊎ ((x : Final) × (token : List ℕ) × IsTrue (is_token token) × (of.0 ∷ of.1 ∷ part ∷ [] ≡ temp_parts x token))) → IsKeyName part ⊎ IsCodeName part
-      by_case (inl formed) = inl formed.2
-      by_case (inr (inl (x, e))) = inr (inl (three_final of.0 of.1 part x e))
-      by_case (inr (inr (x, t, ok, e))) = inr (inr (t, ok, three_temp of.0 of.1 part x t e))
-
-  pub entry_names : (folder : PathView) → IsEntryFolder root folder → place_at s (folder ++ part ∷ []) ≡ Some place → IsEntryName part
-  entry_names folder of is = by_case (stands_as root of.0 (of.1 ∷ of.2 ∷ part ∷ []) (folder ++ part ∷ []) place s tidy (entry_path root folder (part ∷ []) of) is)
-    where
-      by_case : IsFolderParts (of.0 ∷ of.1 ∷ of.2 ∷ part ∷ []) ⊎ (((x : Final) × (of.0 ∷ of.1 ∷ of.2 ∷ part ∷ [] ≡ final_parts x)) ⊎ ((x : Final) × (token : List ℕ) × IsTrue (is_token token) × (of.0 ∷ of.1 ∷ of.2 ∷ part ∷ [] ≡ temp_parts x token))) → IsEntryName part
-      by_case (inl formed) = absurd formed
-      by_case (inr (inl (x, e))) = let file = four_final of.0 of.1 of.2 part x e in (file.0, inl file.1)
-      by_case (inr (inr (x, t, ok, e))) = let file = four_temp of.0 of.1 of.2 part x t e in (file.0, inr (t, ok, file.1))
 
 -- ---- a name of the store is no folder, and a folder of the store no file
 

@@ -1,90 +1,85 @@
 -- What a listing tells of a folder, and what is left when its names were handled.
-use Rattle.std.proofs.Common.{◌≡◌, ◌≢◌, ◌⊎◌, inl, inr, ⊎_elim, ℕ, ◌≤◌, List, [], ◌∷◌, ◌++◌, false, true, Option, None, Some, true≢false, refl, sym, ap, subst, ◌∙◌, arith, append_assoc, length, Contains}
+use Rattle.std.proofs.Common.{◌≡◌, ◌≢◌, ◌⊎◌, inl, inr, ⊎_elim, ℕ, ◌≤◌, List, [], ◌∷◌, ◌++◌, Bool, false, true, Option, None, Some, true≢false, refl, sym, ap, subst, ◌∙◌, arith, append_assoc, length, length-append, Contains}
+use Rattle.std.proofs.lemmas.List.{append_cancel_left}
 use Rattle.std.specs.Option.{option_map_or}
 use Rattle.jl_text.specs.Paths.{PathView}
-use Rattle.jl_text.specs.Counts.{Rose}
 use Rattle.jl_folder.specs.declared.moves.Place.{Place}
-use Rattle.jl_folder.specs.declared.moves.Place.TheVariants.{Folder}
+use Rattle.jl_folder.specs.declared.moves.Place.TheVariants.{Folder, File}
 use Rattle.jl_folder.specs.declared.listing.Name.{Name}
-use Rattle.jl_folder.specs.State.{State, IsState, Trace, History, Opens, AtSome, AtEach, place_at, is_folder, is_folder_place, now, since, run}
+use Rattle.jl_folder.specs.State.{State, IsState, Trace, AtSome, AtEach, IsTrace, place_at, is_folder, is_file, is_folder_place, is_file_place, run}
+use Rattle.jl_folder.specs.Views.{FolderView, FolderAnswers, state, moved}
 use Rattle.jl_folder.specs.Listing.{Stands, ListsNames}
 use Rattle.jl_folder.specs.Calls.{Waits}
-use Rattle.jl_entry.specs.Names.{IsBelow, IsFunctionFolder, IsKeyName, IsCodeName, IsNameOf}
+use Rattle.jl_folder.proofs.Frames.{answers_next, answers_as}
+use Rattle.jl_entry.specs.Names.{IsStoreName, IsStoreFolder, IsBelow}
 use Rattle.jl_rely.specs.Steps.{IsLone}
 use Rattle.jl_rely.specs.Claims.{Anywhere}
+use Rattle.jl_rely.proofs.Causes.{folder_as, file_as}
 use Rattle.jl_rely.proofs.Since.{since_went}
 use Rattle.jl_rely.proofs.Composed.{went_waits, goes_waits}
 use Rattle.jl_rely.proofs.Alone.{foreign_lone, lone_parts, waits_alone}
-use Rattle.jl_protocol.specs.Tidy.{IsTidy}
-use Rattle.jl_clear.specs.Taking.{IsTaking, IsInside}
-use Rattle.jl_clear.proofs.DoingLemmas.{later_rose, does_then, does_waits, goes_does}
-use Rattle.jl_clear.specs.Clearing.{IsPlace, IsEmptied, IsOfEntries, HasAll, HasCode, Handled, Thinned, Clears}
-use Rattle.jl_clear.proofs.Paths.{by_place, child_there, inside_child, here_or_inside, nothing_inside, below_self}
-use Rattle.jl_clear.proofs.Thinning.{thinned_none}
-use Rattle.jl_clear.proofs.Parts.{clears_as}
-use Rattle.jl_clear.proofs.Folders.{place_gone, function_names, root_names, key_there, name_there}
+use Rattle.jl_rely.proofs.Moving.{moves_then, moves_waits}
+use Rattle.jl_rely.proofs.Seen.{state_each, state_new, each_or_some, some_sooner, some_later}
+use Rattle.jl_clear.specs.Taking.{IsTaking, IsInside, IsOfStore, HasOnly}
+use Rattle.jl_clear.specs.declared.removing.Clear.{Clear}
+use Rattle.jl_clear.specs.declared.removing.Clear.TheVariants.{Cleared, Fault}
+use Rattle.jl_clear.specs.Clearing.{IsEmptied, IsBehind, HasAll, Handled, ClearsPart, NoPath, Thinned, Clears}
+use Rattle.jl_clear.proofs.Paths.{by_place, child_there, inside_child, inside_below, below_more, here_or_inside, nothing_inside, no_folder, no_file}
+use Rattle.jl_clear.proofs.Folders.{name_inside}
+use Rattle.jl_clear.proofs.Thinning.{thinned_alone, was_there, no_folder_stays, only_stays, away_at_end}
 
--- ---- what is left
+-- ---- names that stand in a folder
 
--- where each name that stood in the folder was handled, nothing stands in it
-pub emptied : (root folder : PathView) (names : List Name) (Form : List ℕ → Type 0) (May Gone : PathView → Type 0) (s t : State) → IsTidy root s → HasAll folder names s → ((part : List ℕ) (place : Place) → place_at s (folder ++ part ∷ []) ≡ Some place → Form part) → ((part : List ℕ) → Form part → part ≢ []) → ((p : PathView) → Handled Form folder names p → Gone p) → Thinned May Gone s t → IsEmptied folder t
-emptied root folder names Form May Gone s t tidy has forms there handled th p (part, rest, e) =
-    ⊎_elim
-    (λ (same : place_at t p ≡ place_at s p).
-    by_place (place_at s p) (place_at t p ≡ None) (λ none. same ∙ none)
-    (λ place is.
-    let child = child_there s tidy.state folder part rest place (ap (place_at s) (sym e) ∙ is) in
-    let form : Form part = forms part child.0 child.1 in
-    let name : Name = record { part = part; folder = is_folder_place child.0 } in
-    let among : Contains names name = has name (record { place = child.0; place_is = child.1; kind = refl; named = there part form }) in
-    th.gone p (handled p (name, among, (form, inside_child folder part rest p e)))))
-    (λ (g : May p × (place_at t p ≡ None)). g.1)
-    (th.each p)
+-- what names a file or a folder
+file_there : (o : Option Place) → option_map_or is_file_place o false ≡ true → (place : Place) × (o ≡ Some place) × (is_folder_place place ≡ false)
+file_there None e = absurd (true≢false (sym e))
+file_there (Some Folder) e = absurd (true≢false (sym e))
+file_there (Some (File n)) e = (File n, refl, refl)
 
--- what stands afterwards stood before
-was_there : (May Gone : PathView → Type 0) (s t : State) → Thinned May Gone s t → (p : PathView) (place : Place) → place_at t p ≡ Some place → place_at s p ≡ Some place
-was_there May Gone s t th p place is =
-    ⊎_elim (λ (same : place_at t p ≡ place_at s p). sym same ∙ is) (λ (g : May p × (place_at t p ≡ None)). let h : Some place ≡ None = sym is ∙ g.1 in cc) (th.each p)
+folder_there : (o : Option Place) → option_map_or is_folder_place o false ≡ true → (place : Place) × (o ≡ Some place) × (is_folder_place place ≡ true)
+folder_there None e = absurd (true≢false (sym e))
+folder_there (Some Folder) e = (Folder, refl, refl)
+folder_there (Some (File n)) e = absurd (true≢false (sym e))
 
--- where the entries of a function were handled, its code's names are left
-pub code_left : (root folder : PathView) (names : List Name) (May : PathView → Type 0) (s t : State) → IsTidy root s → IsFunctionFolder root folder → HasAll folder names s → Thinned May (Handled IsKeyName folder names) s t → HasCode folder names t
-code_left root folder names May s t tidy of has th = (
-  λ name stands. has name (record { place = stands.place; place_is = was_there May (Handled IsKeyName folder names) s t th (folder ++ name.part ∷ []) stands.place stands.place_is; kind = stands.kind; named = stands.named }),
-  λ part place is.
-      let before = was_there May (Handled IsKeyName folder names) s t th (folder ++ part ∷ []) place is in
-      ⊎_elim
-      (λ (key : IsKeyName part).
-      let name : Name = record { part = part; folder = is_folder_place place } in
-      let among : Contains names name = has name (record { place = place; place_is = before; kind = refl; named = key_there part key }) in
-      let none : place_at t (folder ++ part ∷ []) ≡ None = th.gone (folder ++ part ∷ []) (name, among, (key, below_self (folder ++ part ∷ []))) in
-      let h : Some place ≡ None = sym is ∙ none in cc)
-      (λ (code : IsCodeName part). code)
-      (function_names root s tidy part place folder of before),
-)
+decide : (b : Bool) → (b ≡ true) ⊎ (b ≡ false)
+decide true = inl refl
+decide false = inr refl
 
--- where each name of a function's folder is one of these, what is of its entries was handled
-pub entries_handled : (folder : PathView) (names : List Name) (s : State) → IsState s → HasAll folder names s → (p : PathView) → IsOfEntries folder p → Handled IsKeyName folder names p ⊎ (place_at s p ≡ None)
-unfolding IsBelow
-entries_handled folder names s ok has p (part, (key, (rest, e))) =
-    by_place (place_at s p) (Handled IsKeyName folder names p ⊎ (place_at s p ≡ None)) (λ none. inr none)
-    (λ place is.
-    let inside : p ≡ folder ++ part ∷ rest = e ∙ append_assoc folder (part ∷ []) rest in
-    let child = child_there s ok folder part rest place (ap (place_at s) (sym inside) ∙ is) in
-    let name : Name = record { part = part; folder = is_folder_place child.0 } in
-    let among : Contains names name = has name (record { place = child.0; place_is = child.1; kind = refl; named = key_there part key }) in
-    inl (name, among, (key, (rest, e))))
+-- whether more parts follow
+abbrev goes_on : PathView → Bool
+goes_on [] = false
+goes_on (x ∷ xs) = true
 
--- what is no folder holds nothing
-pub absent_below : (root folder : PathView) (s : State) → IsTidy root s → IsPlace root folder → 1 ≤ length folder → is_folder s folder ≡ false → (p : PathView) → IsBelow folder p → place_at s p ≡ None
-absent_below root folder s tidy place long unmade p is =
-    ⊎_elim (λ (e : p ≡ folder). ap (place_at s) e ∙ place_gone root folder s tidy place.0 unmade) (λ (i : IsInside folder p). ap (place_at s) i.2 ∙ nothing_inside s tidy.state folder long unmade i.0 i.1) (here_or_inside folder p is)
-
-pub absent_inside : (root : PathView) (s : State) → IsTidy root s → is_folder s root ≡ false → (p : PathView) → IsInside root p → place_at s p ≡ None
-absent_inside [] s tidy unmade p i = absurd (true≢false (sym (is_there (place_at s []) tidy.state.here) ∙ unmade))
+-- where a file stands inside a folder, the first part on the way to it stands right in it
+stands_first : (s : State) → IsState s → (folder : PathView) (part : List ℕ) (rest : PathView) → part ≢ [] → is_file s (folder ++ part ∷ rest) ≡ true → Stands s folder (record { part = part; folder = goes_on rest })
+stands_first s ok folder part [] named is =
+    let there = file_there (place_at s (folder ++ part ∷ [])) is in
+    record { place = there.0; place_is = there.1; kind = there.2; named = named }
+stands_first s ok folder part (x ∷ xs) named is =
+    let there = file_there (place_at s (folder ++ part ∷ x ∷ xs)) is in
+    let made = in_folder (decide (is_folder s (folder ++ part ∷ []))) there.0 there.1 in
+    let at = folder_there (place_at s (folder ++ part ∷ [])) made in
+    record { place = at.0; place_is = at.1; kind = at.2; named = named }
   where
-    is_there : (o : Option Place) → o ≡ Some Folder → option_map_or is_folder_place o false ≡ true
-    is_there o e = ap (λ (k : Option Place). option_map_or is_folder_place k false) e
-absent_inside (r ∷ rs) s tidy unmade p i = ap (place_at s) i.2 ∙ nothing_inside s tidy.state (r ∷ rs) (omega arith) unmade i.0 i.1
+    in_folder : (is_folder s (folder ++ part ∷ []) ≡ true) ⊎ (is_folder s (folder ++ part ∷ []) ≡ false) → (place : Place) → place_at s (folder ++ part ∷ x ∷ xs) ≡ Some place → is_folder s (folder ++ part ∷ []) ≡ true
+    in_folder (inl made) place at = made
+    in_folder (inr unmade) place at =
+        let gone : place_at s ((folder ++ part ∷ []) ++ x ∷ xs) ≡ None = nothing_inside s ok (folder ++ part ∷ []) (omega (arith, length-append folder (part ∷ []))) unmade x xs in
+        let h : Some place ≡ None = sym at ∙ ap (place_at s) (sym (append_assoc folder (part ∷ []) (x ∷ xs))) ∙ gone in
+        cc
+
+-- and so does what is on the way to a folder there, and that folder
+stands_folder : (s : State) → IsState s → (folder : PathView) (part : List ℕ) (rest : PathView) → part ≢ [] → is_folder s (folder ++ part ∷ rest) ≡ true → (kind : Bool) × Stands s folder (record { part = part; folder = kind })
+stands_folder s ok folder part rest named is =
+    let there = folder_there (place_at s (folder ++ part ∷ rest)) is in
+    let child = child_there s ok folder part rest there.0 there.1 in
+    (is_folder_place child.0, record { place = child.0; place_is = child.1; kind = refl; named = named })
+
+-- a file that stood inside at each state of a listing is behind one of the names
+pub named_if_each : (folder : PathView) (names : List Name) (s : State) (moves : Trace) → IsState s → IsTrace s moves → ListsNames folder names s moves → (part : List ℕ) (rest : PathView) → part ≢ [] → AtEach s moves (λ t. is_file t (folder ++ part ∷ rest) ≡ true) → (name : Name) × Contains names name × (name.part ≡ part)
+named_if_each folder names s moves ok may lists part rest named each =
+    let name : Name = record { part = part; folder = goes_on rest } in
+    (name, lists.every name (λ before later split. stands_first (run s before) (state_each s moves before later ok may split) folder part rest named (each before later split)), refl)
 
 -- ---- a listing where no other moved
 
@@ -98,63 +93,168 @@ at_each s P moves none p before later split = subst (λ (b : Trace). P (run s b)
 pub at_some : (s : State) (P : State → Type 0) (moves : Trace) → moves ≡ [] → AtSome s moves P → P s
 at_some s P moves none (before, later, split, p) = subst (λ (b : Trace). P (run s b)) (front_none before later (sym none ∙ split)) p
 
-pub no_moves : (token : List ℕ) (old new : History) → Waits token old new → IsLone token (since old new) → since old new ≡ []
-no_moves token old new waits lone =
-    let is : since old new ≡ waits.others = since_went old new waits.others (went_waits token old new waits) in
-    is ∙ foreign_lone token waits.others waits.foreign (subst (IsLone token) is lone)
+pub no_moves : (old new : FolderView) → Waits old new → IsLone old.token (moved old new) → moved old new ≡ []
+no_moves old new waits lone =
+    let is : moved old new ≡ waits.others = since_went old new waits.others (went_waits old new waits) in
+    is ∙ foreign_lone old.token waits.others waits.foreign (subst (IsLone old.token) is lone)
 
-module _ {D : Type 0} (token : D → List ℕ) (told : D → Type 0) (history : D → History) (opens : D → Opens) (faults : D → ℕ) (root : PathView) where
+-- ---- what is left
+
+module _ (root folder : PathView) (Form : List ℕ → Type 0) (names : List Name) (there : (part : List ℕ) → Form part → part ≢ []) where
+  -- what is behind one of the names was handled
+  behind_handled : (p : PathView) (part : List ℕ) (rest : PathView) → Form part → p ≡ folder ++ part ∷ rest → (name : Name) × Contains names name × (name.part ≡ part) → Handled Form folder names p
+  behind_handled p part rest form e (name, among, same) =
+      (name, among, subst (λ (w : List ℕ). ClearsPart Form folder w p) (sym same) (form, inside_child folder part rest p e))
+
+  -- where each name that stood in the folder was handled and nothing but the store's stood there, nothing is left
+  emptied : (May : PathView → Type 0) (s t : State) → IsState s → IsState t → Thinned root May s t → ((p : PathView) → IsInside folder p → IsOfStore root p → IsBehind Form folder p) → HasOnly root folder s → HasAll folder names s
+      → ((p : PathView) → Handled Form folder names p → IsStoreName root p → is_file t p ≡ false) → ((p : PathView) → Handled Form folder names p → IsStoreFolder root p → HasOnly root p s → is_folder t p ≡ false) → IsEmptied folder t
+  emptied May s t ok ok' th inner only has files folders p (part, rest, e) =
+      by_place (place_at t p) (place_at t p ≡ None) (λ none. none)
+      (λ place is.
+      let child = child_there t ok' folder part rest place (ap (place_at t) (sym e) ∙ is) in
+      absurd (left child.0 child.1))
+    where
+      q : PathView
+      q = folder ++ part ∷ []
+
+      form : IsOfStore root q → Form part
+      form of =
+          let (part', rest', form', e') = inner q (part, [], refl) of in
+          let parts : part' ∷ rest' ≡ part ∷ [] = append_cancel_left folder (part' ∷ rest') (part ∷ []) (sym e') in
+          let same : part' ≡ part = cc in
+          subst Form same form'
+
+      handled : (of : IsOfStore root q) → (kind : Bool) → Stands s folder (record { part = part; folder = kind }) → Handled Form folder names q
+      handled of kind stands = behind_handled q part [] (form of) refl (record { part = part; folder = kind }, has (record { part = part; folder = kind }) stands, refl)
+
+      stands_as : IsOfStore root q → (child : Place) → place_at s q ≡ Some child → Stands s folder (record { part = part; folder = is_folder_place child })
+      stands_as of child is = record { place = child; place_is = is; kind = refl; named = there part (form of) }
+
+      left : (child : Place) → place_at t q ≡ Some child → ⊥
+      left child is =
+          let was : place_at s q ≡ Some child = was_there root May s t th q child is in
+          let same : place_at t q ≡ place_at s q = is ∙ sym was in
+          ⊎_elim (λ (none : place_at s q ≡ None). let h : Some child ≡ None = sym was ∙ none in cc)
+          (λ (found : (IsStoreName root q × (is_file s q ≡ true)) ⊎ (IsStoreFolder root q × (is_folder s q ≡ true))).
+          ⊎_elim
+          (λ (f : IsStoreName root q × (is_file s q ≡ true)).
+          true≢false (sym (file_as s t q same ∙ f.1) ∙ files q (handled (inl f.0) (is_folder_place child) (stands_as (inl f.0) child was)) f.0))
+          (λ (f : IsStoreFolder root q × (is_folder s q ≡ true)).
+          true≢false (sym (folder_as s t q same ∙ f.1) ∙ folders q (handled (inr f.0) (is_folder_place child) (stands_as (inr f.0) child was)) f.0 (λ r below. only r (below_more folder (part ∷ []) r below))))
+          found)
+          (only q (inside_below folder q (part, [], refl)))
+
+  -- the names of the folder were handled, and then the folder is taken away
+  pub clears_emptied : (May : PathView → Type 0) (answer : Clear) (old mid new : FolderView) → ((p : PathView) → IsInside folder p → IsOfStore root p → IsBehind Form folder p) → Clears root Anywhere May (Handled Form folder names) (Handled Form folder names) Cleared old mid → Clears root (IsEmptied folder) May NoPath (IsBelow folder) answer mid new → Clears root (HasAll folder names) May (Handled Form folder names) (IsBelow folder) answer old new
+  clears_emptied May answer old mid new inner a b = record {
+    frame = answers_next old mid new a.frame (λ e. cc) b.frame (λ f. f) (λ f. f);
+    moves = λ t. moves_then (IsTaking root May) old mid new (a.moves t) (b.moves (a.frame.told t));
+    went = λ t done ok p w name. some_sooner (λ s. is_file s p ≡ false) old mid new (a.moves t).went (b.moves (a.frame.told t)).went (a.went t refl ok p w name);
+    alone = λ t done ok lone has p below store only.
+        let t' = a.frame.told t in
+        let first = a.moves t in
+        let second = b.moves t' in
+        let parts = lone_parts old mid new first.went second.went lone in
+        let ok' = state_new old mid first.went ok in
+        let th = thinned_alone root May old mid first parts.0 in
+        let stays = no_folder_stays root May (state mid) (state new) (thinned_alone root May mid new second parts.1) p in
+        ⊎_elim
+        (λ (here : p ≡ folder).
+        let bare = emptied May (state old) (state mid) ok ok' th inner (subst (λ (q : PathView). HasOnly root q (state old)) here only) has
+        (λ q h name. away_at_end root May old mid first parts.0 q (a.went t refl ok q h name)) (λ q h f o. a.alone t refl ok parts.0 tt q h f o) in
+        b.alone t' done ok' parts.1 bare p below store (only_stays root May (state old) (state mid) th p only))
+        (λ (inside : IsInside folder p).
+        let (part, rest, form, e) = inner p inside (inr store) in
+        ⊎_elim
+        (λ (made : is_folder (state old) p ≡ true).
+        let (kind, stands) = stands_folder (state old) ok folder part rest (there part form) (ap (is_folder (state old)) (sym e) ∙ made) in
+        stays (a.alone t refl ok parts.0 tt p (behind_handled p part rest form e (record { part = part; folder = kind }, has (record { part = part; folder = kind }) stands, refl)) store only))
+        (λ (unmade : is_folder (state old) p ≡ false). stays (no_folder_stays root May (state old) (state mid) th p unmade))
+        (decide (is_folder (state old) p)))
+        (here_or_inside folder p below);
+  }
+
+  -- the names of the folder were handled, and the folder stays
+  pub clears_inside : (May Gone : PathView → Type 0) (answer : Clear) (old new : FolderView) → ((p : PathView) → Gone p → IsOfStore root p → IsBehind Form folder p) → Clears root Anywhere May (Handled Form folder names) (Handled Form folder names) answer old new → Clears root (HasAll folder names) May (Handled Form folder names) Gone answer old new
+  clears_inside May Gone answer old new inner a = record {
+    frame = a.frame;
+    moves = a.moves;
+    went = a.went;
+    alone = λ t done ok lone has p g store only.
+        let (part, rest, form, e) = inner p g (inr store) in
+        ⊎_elim
+        (λ (made : is_folder (state old) p ≡ true).
+        let (kind, stands) = stands_folder (state old) ok folder part rest (there part form) (ap (is_folder (state old)) (sym e) ∙ made) in
+        a.alone t done ok lone tt p (behind_handled p part rest form e (record { part = part; folder = kind }, has (record { part = part; folder = kind }) stands, refl)) store only)
+        (λ (unmade : is_folder (state old) p ≡ false). no_folder_stays root May (state old) (state new) (thinned_alone root May old new (a.moves t) lone) p unmade)
+        (decide (is_folder (state old) p));
+  }
+
   -- the names of a folder, and what comes after
-  pub clears_listed : (folder : PathView) (names : List Name) (May Gone : PathView → Type 0) (Done Failed : Type 0) (old mid new : D) → (told old → told mid) → token mid ≡ token old → opens mid ≡ opens old → faults old ≤ faults mid → (told old → Waits (token old) (history old) (history mid)) → (told old → ListsNames folder names (now (history old)) (since (history old) (history mid))) → Clears token told history opens faults root (HasAll folder names) May Gone Done Failed mid new → Clears token told history opens faults root Anywhere May Gone Done Failed old new
-  clears_listed folder names May Gone Done Failed old mid new tells same_token same_opens later waits lists b =
-      let first = does_waits token told history opens faults (IsTaking root May) old mid tells same_token same_opens later waits in
-      record {
-        does = does_then token told history opens faults (IsTaking root May) old mid new first b.does;
-        failed = λ f. later_rose (faults old) (faults mid) (faults new) later (b.failed f);
-        alone = λ t done lone tidy pre.
-            let parts = lone_parts (token old) (history old) (history mid) (history new) (goes_waits (token old) (history old) (history mid) (waits t)) (goes_does token told history opens faults (IsTaking root May) mid new b.does (tells t)) lone in
-            let lone' = subst (λ (k : List ℕ). IsLone k (since (history mid) (history new))) (sym same_token) parts.1 in
-            let same = waits_alone (token old) (history old) (history mid) (waits t) parts.0 in
-            let none = no_moves (token old) (history old) (history mid) (waits t) parts.0 in
-            let has : HasAll folder names (now (history old)) = λ name stands. (lists t).every name (at_each (now (history old)) (λ s. Stands s folder name) (since (history old) (history mid)) none stands) in
-            subst (λ (s : State). Thinned May Gone s (now (history new))) same
-            (b.alone (tells t) done lone' (subst (IsTidy root) (sym same) tidy) (subst (HasAll folder names) (sym same) has));
-      }
+  pub clears_listed : (May Went Gone : PathView → Type 0) (answer : Clear) (old mid new : FolderView) {Fails : Type 0} → ((p : PathView) → Went p → IsStoreName root p → IsBehind Form folder p) → FolderAnswers Fails old mid → (Fails → ⊥) → (old.told → Waits old mid) → (old.told → ListsNames folder names (state old) (moved old mid)) → Clears root (HasAll folder names) May (Handled Form folder names) Gone answer mid new → Clears root Anywhere May Went Gone answer old new
+  clears_listed May Went Gone answer old mid new inner frame well waits lists b = record {
+    frame = answers_next old mid new frame well b.frame (λ f. f) (λ f. f);
+    moves = λ t. moves_then (IsTaking root May) old mid new (moves_waits (IsTaking root May) old mid frame.token (waits t)) (b.moves (frame.told t));
+    went = λ t done ok p w name.
+        let first = goes_waits old mid frame.token (waits t) in
+        let second = (b.moves (frame.told t)).went in
+        let (part, rest, form, e) = inner p w name in
+        ⊎_elim
+        (λ (each : AtEach (state old) (moved old mid) (λ s. is_file s p ≡ true)).
+        let found = named_if_each folder names (state old) (moved old mid) ok first.lawful (lists t) part rest (there part form) (subst (λ (q : PathView). AtEach (state old) (moved old mid) (λ s. is_file s q ≡ true)) e each) in
+        some_later (λ s. is_file s p ≡ false) old mid new first second (b.went (frame.told t) done (state_new old mid first ok) p (behind_handled p part rest form e found) name))
+        (λ (some : AtSome (state old) (moved old mid) (λ s. is_file s p ≡ false)). some_sooner (λ s. is_file s p ≡ false) old mid new first second some)
+        (each_or_some (λ s. is_file s p) (state old) (moved old mid));
+    alone = λ t done ok lone pre p g store only.
+        let t' = frame.told t in
+        let first = goes_waits old mid frame.token (waits t) in
+        let parts = lone_parts old mid new first (b.moves t').went lone in
+        let same = waits_alone old mid (waits t) parts.0 in
+        let none = no_moves old mid (waits t) parts.0 in
+        let has : HasAll folder names (state old) = λ name stands. (lists t).every name (at_each (state old) (λ s. Stands s folder name) (moved old mid) none stands) in
+        b.alone t' done (state_new old mid first ok) parts.1 (subst (HasAll folder names) (sym same) has) p g store (subst (HasOnly root p) (sym same) only);
+  }
 
-  -- no names: these aren't there, or it wasn't done
-  pub clears_waits : (May Gone : PathView → Type 0) (Done Failed : Type 0) (old new : D) → (told old → told new) → token new ≡ token old → opens new ≡ opens old → faults old ≤ faults new → (Failed → Rose (faults old) (faults new)) → (told old → Waits (token old) (history old) (history new)) → (told old → Done → since (history old) (history new) ≡ [] → IsTidy root (now (history old)) → (p : PathView) → Gone p → place_at (now (history old)) p ≡ None) → Clears token told history opens faults root Anywhere May Gone Done Failed old new
-  clears_waits May Gone Done Failed old new tells same_token same_opens later failed waits none = record {
-    does = does_waits token told history opens faults (IsTaking root May) old new tells same_token same_opens later waits;
-    failed = failed;
-    alone = λ t done lone tidy pre.
-        subst (λ (s : State). Thinned May Gone (now (history old)) s) (sym (waits_alone (token old) (history old) (history new) (waits t) lone))
-        (thinned_none May Gone (now (history old)) (none t done (no_moves (token old) (history old) (history new) (waits t) lone) tidy));
+-- ---- no names
+
+module _ (root : PathView) (May Went Gone : PathView → Type 0) (answer : Clear) (old new : FolderView) {Fails : Type 0} (frame : FolderAnswers Fails old new) (to : answer ≡ Fault → Fails) (from : Fails → answer ≡ Fault) (waits : old.told → Waits old new) where
+  -- it wasn't done
+  pub clears_unlisted : (answer ≡ Cleared → ⊥) → Clears root Anywhere May Went Gone answer old new
+  clears_unlisted undone = record {
+    frame = answers_as old new frame to from;
+    moves = λ t. moves_waits (IsTaking root May) old new frame.token (waits t);
+    went = λ t done. absurd (undone done);
+    alone = λ t done. absurd (undone done);
   }
 
   -- there is no such folder
-  pub clears_absent : (folder : PathView) (May Gone : PathView → Type 0) (Done Failed : Type 0) (old new : D) → ((p : PathView) → Gone p → IsBelow folder p) → IsPlace root folder → 1 ≤ length folder → (told old → told new) → token new ≡ token old → opens new ≡ opens old → faults old ≤ faults new → (Failed → ⊥) → (told old → Waits (token old) (history old) (history new)) → (told old → AtSome (now (history old)) (since (history old) (history new)) (λ s. is_folder s folder ≡ false)) → Clears token told history opens faults root Anywhere May Gone Done Failed old new
-  clears_absent folder May Gone Done Failed old new below place long tells same_token same_opens later faultless waits unmade =
-      clears_waits May Gone Done Failed old new tells same_token same_opens later (λ f. absurd (faultless f)) waits
-      (λ t done none tidy p g. absent_below root folder (now (history old)) tidy place long (at_some (now (history old)) (λ s. is_folder s folder ≡ false) (since (history old) (history new)) none (unmade t)) p (below p g))
-
-  pub clears_no_root : (Done Failed : Type 0) (old new : D) → (told old → told new) → token new ≡ token old → opens new ≡ opens old → faults old ≤ faults new → (Failed → ⊥) → (told old → Waits (token old) (history old) (history new)) → (told old → AtSome (now (history old)) (since (history old) (history new)) (λ s. is_folder s root ≡ false)) → Clears token told history opens faults root Anywhere (IsInside root) (IsInside root) Done Failed old new
-  clears_no_root Done Failed old new tells same_token same_opens later faultless waits unmade =
-      clears_waits (IsInside root) (IsInside root) Done Failed old new tells same_token same_opens later (λ f. absurd (faultless f)) waits
-      (λ t done none tidy. absent_inside root (now (history old)) tidy (at_some (now (history old)) (λ s. is_folder s root ≡ false) (since (history old) (history new)) none (unmade t)))
-
-  -- where the entries of a function were handled, nothing of them is left
-  pub clears_entry_names : (folder : PathView) (names : List Name) (Done Failed : Type 0) (old new : D) → Clears token told history opens faults root Anywhere (IsOfEntries folder) (Handled IsKeyName folder names) Done Failed old new → Clears token told history opens faults root (HasAll folder names) (IsOfEntries folder) (IsOfEntries folder) Done Failed old new
-  clears_entry_names folder names Done Failed old new a =
-      clears_as token told history opens faults root Anywhere (HasAll folder names) (IsOfEntries folder) (IsOfEntries folder) (Handled IsKeyName folder names) (IsOfEntries folder) Done Done Failed Failed old new (λ s tidy has. tt) (λ p may. may)
-      (λ s tidy has p of. entries_handled folder names s tidy.state has p of) (λ d. d) (λ f. f) a
-
-  -- where the modules of the root were handled, nothing stands in it
-  pub clears_root_names : (names : List Name) (Done Failed : Type 0) (old new : D) → Clears token told history opens faults root Anywhere (IsInside root) (Handled IsNameOf root names) Done Failed old new → Clears token told history opens faults root (HasAll root names) (IsInside root) (IsInside root) Done Failed old new
-  clears_root_names names Done Failed old new a = record {
-    does = a.does;
-    failed = a.failed;
-    alone = λ t done lone tidy has.
-        let th = a.alone t done lone tidy tt in
-        let bare = emptied root root names IsNameOf (IsInside root) (Handled IsNameOf root names) (now (history old)) (now (history new)) tidy has (λ part place is. root_names root (now (history old)) tidy part place is) name_there (λ p h. h) th in
-        record { each = th.each; nodes = th.nodes; gone = bare };
+  pub clears_absent : (folder : PathView) → ((p : PathView) → Went p → IsStoreName root p → (s : State) → IsState s → is_folder s folder ≡ false → place_at s p ≡ None) → ((p : PathView) → Gone p → (s : State) → IsState s → is_folder s folder ≡ false → is_folder s p ≡ false) → (old.told → AtSome (state old) (moved old new) (λ s. is_folder s folder ≡ false)) → Clears root Anywhere May Went Gone answer old new
+  clears_absent folder away gone unmade = record {
+    frame = answers_as old new frame to from;
+    moves = λ t. moves_waits (IsTaking root May) old new frame.token (waits t);
+    went = λ t done ok p w name.
+        let (before, later, split, gone_there) = unmade t in
+        let goes = goes_waits old new frame.token (waits t) in
+        (before, later, split, no_file (run (state old) before) p (away p w name (run (state old) before) (state_each (state old) (moved old new) before later ok goes.lawful split) gone_there));
+    alone = λ t done ok lone pre p g store only.
+        let none = no_moves old new (waits t) lone in
+        ap (λ s. is_folder s p) (waits_alone old new (waits t) lone) ∙ gone p g (state old) ok (at_some (state old) (λ s. is_folder s folder ≡ false) (moved old new) none (unmade t));
   }
+
+-- what stands in an absent folder
+pub absent_name : (root folder : PathView) → IsStoreFolder root folder → 1 ≤ length folder → (p : PathView) → IsBelow folder p → IsStoreName root p → (s : State) → IsState s → is_folder s folder ≡ false → place_at s p ≡ None
+absent_name root folder store long p below name s ok unmade =
+    let (part, rest, e) = name_inside root folder p store below name in ap (place_at s) e ∙ nothing_inside s ok folder long unmade part rest
+
+pub absent_inside : (folder : PathView) → 1 ≤ length folder → (p : PathView) → IsInside folder p → (s : State) → IsState s → is_folder s folder ≡ false → place_at s p ≡ None
+absent_inside folder long p (part, rest, e) s ok unmade = ap (place_at s) e ∙ nothing_inside s ok folder long unmade part rest
+
+pub absent_folder : (folder : PathView) → 1 ≤ length folder → (p : PathView) → IsBelow folder p → (s : State) → IsState s → is_folder s folder ≡ false → is_folder s p ≡ false
+absent_folder folder long p below s ok unmade =
+    ⊎_elim (λ (here : p ≡ folder). ap (is_folder s) here ∙ unmade) (λ (inside : IsInside folder p). no_folder s p (absent_inside folder long p inside s ok unmade)) (here_or_inside folder p below)
+
+-- the root may be the current folder, which is always there
+pub absent_root : (root p : PathView) → IsInside root p → (s : State) → IsState s → is_folder s root ≡ false → place_at s p ≡ None
+absent_root [] p inside s ok unmade = absurd (true≢false (sym (ap (λ (k : Option Place). option_map_or is_folder_place k false) ok.here) ∙ unmade))
+absent_root (r ∷ rs) p inside s ok unmade = absent_inside (r ∷ rs) (omega arith) p inside s ok unmade

@@ -5,11 +5,11 @@ use Rattle.std.proofs.lemmas.List.{append-nil, take-append-drop}
 use Rattle.std.specs.Option.{option_map_or}
 use Rattle.jl_text.specs.Paths.{PathView, is_fixed, parent}
 use Rattle.jl_folder.specs.declared.moves.Place.{Place}
-use Rattle.jl_folder.specs.State.{State, IsState, place_at, is_folder, is_folder_place}
-use Rattle.jl_entry.specs.Names.{IsBelow}
+use Rattle.jl_folder.specs.State.{State, IsState, place_at, is_folder, is_folder_place, is_file, is_file_place}
+use Rattle.jl_entry.specs.Names.{IsBelow, IsKeyName}
 use Rattle.jl_rely.proofs.Effects.{number_apart}
 use Rattle.jl_clear.specs.Taking.{IsInside}
-use Rattle.jl_clear.specs.Clearing.{IsOfEntries}
+use Rattle.jl_clear.specs.Clearing.{IsOfEntries, IsBehind}
 
 -- ---- paths
 
@@ -37,6 +37,15 @@ inside_child p part rest q e = (rest, e ∙ sym (append_assoc p (part ∷ []) re
 -- what is of a function's entries stands in its folder
 pub entries_below : (function p : PathView) → IsOfEntries function p → IsBelow function p
 entries_below function p (part, (key, is)) = below_more function (part ∷ []) p is
+
+-- and behind the name of one
+pub entries_behind : (function p : PathView) → IsOfEntries function p → IsBehind IsKeyName function p
+unfolding IsBelow
+entries_behind function p (part, (key, (rest, e))) = (part, rest, key, e ∙ append_assoc function (part ∷ []) rest)
+
+pub below_then : (p q r : PathView) → IsBelow p q → IsBelow q r → IsBelow p r
+unfolding IsBelow
+below_then p q r (parts, e) (rest, f) = (parts ++ rest, f ∙ ap (λ (w : PathView). w ++ rest) e ∙ append_assoc p parts rest)
 
 -- at the path, or inside
 pub here_or_inside : (p q : PathView) → IsBelow p q → (q ≡ p) ⊎ IsInside p q
@@ -90,6 +99,9 @@ by_place (Some place) P none some = some place refl
 
 pub no_folder : (s : State) (p : PathView) → place_at s p ≡ None → is_folder s p ≡ false
 no_folder s p e = ap (λ o. option_map_or is_folder_place o false) e
+
+pub no_file : (s : State) (p : PathView) → place_at s p ≡ None → is_file s p ≡ false
+no_file s p e = ap (λ o. option_map_or is_file_place o false) e
 
 pub is_there : (s : State) (p : PathView) (place : Place) → place_at s p ≡ Some place → IsSome (place_at s p)
 is_there s p place e = ap is_some e

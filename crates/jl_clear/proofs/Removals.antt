@@ -1,5 +1,6 @@
--- What one removal leaves, where no other moved.
-use Rattle.std.proofs.Common.{◌≡◌, ◌⊎◌, inl, inr, ⊎_elim, ℕ, List, [], ◌∷◌, ◌++◌, false, Option, None, Some, IsSome, true≢false, sym, ap, subst, ◌∙◌}
+-- What moves that take away owe, and what one removal leaves where no other moved.
+use Rattle.std.proofs.Common.{◌≡◌, inl, inr, ℕ, List, [], ◌∷◌, ◌++◌, false, Option, None, Some, IsSome, true≢false, sym, ap, subst, ◌∙◌}
+use Rattle.std.specs.Option.{option_map_or}
 use Rattle.jl_text.specs.Paths.{PathView, is_fixed}
 use Rattle.jl_folder.specs.declared.moves.Place.{Place}
 use Rattle.jl_folder.specs.declared.moves.Move.{Move}
@@ -8,25 +9,28 @@ use Rattle.jl_folder.specs.declared.folder.Removed.{Removed}
 use Rattle.jl_folder.specs.declared.folder.Removed.TheVariants as removed
 use Rattle.jl_folder.specs.declared.folder.RemovedDir.{RemovedDir}
 use Rattle.jl_folder.specs.declared.folder.RemovedDir.TheVariants as removed_dir
-use Rattle.jl_folder.specs.State.{State, Trace, History, place_at, now, since, run, after}
-use Rattle.jl_folder.specs.Calls.{RemovesFile, RemovesFolder, IsKept, own_event}
-use Rattle.jl_entry.specs.Names.{IsStoreName, IsStoreFolder, IsBelow}
+use Rattle.jl_folder.specs.State.{State, Trace, AtSome, place_at, is_file, is_folder, is_file_place, is_folder_place, run, after}
+use Rattle.jl_folder.specs.Views.{FolderView, state, moved}
+use Rattle.jl_folder.specs.Calls.{Call, RemovesFile, RemovesFolder, IsKept, own_event}
+use Rattle.jl_entry.specs.Names.{IsStoreName, IsStoreFolder}
 use Rattle.jl_rely.specs.Steps.{StepFact, AllSteps, OwnMoves, IsLone}
-use Rattle.jl_rely.proofs.Since.{now_went}
+use Rattle.jl_rely.specs.Claims.{Moves}
+use Rattle.jl_rely.specs.Lone.{MovesAlone}
+use Rattle.jl_rely.proofs.Since.{since_went, now_went, state_after}
+use Rattle.jl_rely.proofs.Composed.{went_call, goes_call}
+use Rattle.jl_rely.proofs.Seen.{some_end}
+use Rattle.jl_rely.proofs.Effects.{removed_here, unmade_here}
+use Rattle.jl_folder.proofs.Traces.{run-append}
 use Rattle.jl_protocol.specs.Whole.{Answers}
 use Rattle.jl_protocol.specs.Proper.{IsProper, IsLawful, RenamesTrue}
 use Rattle.jl_protocol.specs.Tidy.{IsTidy}
 use Rattle.jl_protocol.proofs.Kills.{tidy_at_end}
 use Rattle.jl_protocol.proofs.LawfulCalls.{always_remove, always_remove_dir}
-use Rattle.jl_clear.specs.Doing.{Moves}
 use Rattle.jl_clear.specs.Removing.{clear_of, clear_of_folder}
 use Rattle.jl_clear.specs.declared.removing.Clear.TheVariants as clear
-use Rattle.jl_clear.proofs.DoingLemmas.{moves_went}
-use Rattle.jl_clear.specs.Taking.{IsTaking, IsInside}
-use Rattle.jl_clear.specs.Clearing.{IsPlace, IsEmptied, Thinned}
-use Rattle.jl_clear.proofs.Paths.{below_self, here_or_inside, nothing_inside, last_of}
-use Rattle.jl_clear.proofs.Thinning.{thinned_none, thinned_remove, thinned_remove_dir, thinned_as}
-use Rattle.jl_clear.proofs.Folders.{name_no_folder, name_path_long, place_gone, file_gone}
+use Rattle.jl_clear.specs.Taking.{IsTaking}
+use Rattle.jl_clear.specs.Clearing.{IsEmptied}
+use Rattle.jl_clear.proofs.Paths.{last_of}
 
 -- ---- the moves are proper and lawful in every state
 
@@ -74,54 +78,50 @@ lone_all P token Kinds f s [] own lone = tt
 lone_all P token Kinds f s (e ∷ es) own lone =
     (subst (λ (t : List ℕ). P t s e.1) (sym lone.0) (f s e.1 (own.0 lone.0)), lone_all P token Kinds f (after s e) es own.1 lone.1)
 
-pub tidy_alone : (root : PathView) (Of : PathView → Type 0) (token : List ℕ) (old new : History) → Moves token (IsTaking root Of) old new → IsLone token (since old new) → IsTidy root (now old) → IsTidy root (now new)
-tidy_alone root Of token old new m lone tidy =
-    subst (IsTidy root) (sym (now_went old new (since old new) (moves_went token (IsTaking root Of) old new m)))
-    (tidy_at_end root (now old) (since old new) m.lawful (lone_all (IsProper root) token (IsTaking root Of) (taking_proper root Of token) (now old) (since old new) m.own lone) tidy)
+pub tidy_alone : (root : PathView) (Of : PathView → Type 0) (old new : FolderView) → Moves (IsTaking root Of) old new → IsLone old.token (moved old new) → IsTidy root (state old) → IsTidy root (state new)
+tidy_alone root Of old new m lone tidy =
+    subst (IsTidy root) (sym (state_after old new m.went))
+    (tidy_at_end root (state old) (moved old new) m.went.lawful (lone_all (IsProper root) old.token (IsTaking root Of) (taking_proper root Of old.token) (state old) (moved old new) m.own lone) tidy)
 
 -- ---- one removal
 
-module _ (root p : PathView) (token : List ℕ) (s : State) (tidy : IsTidy root s) where
-  -- nothing was there
-  none_left : ((q : PathView) → IsBelow p q → place_at s q ≡ None) → (own : Option Move) → own ≡ None → Thinned (IsBelow p) (IsBelow p) s (run s (own_event token own))
-  none_left bare own still = subst (λ (o : Option Move). Thinned (IsBelow p) (IsBelow p) s (run s (own_event token o))) (sym still) (thinned_none (IsBelow p) (IsBelow p) s bare)
+no_place : (o : Option Place) → o ≡ None → (option_map_or is_file_place o false ≡ false) × (option_map_or is_folder_place o false ≡ false)
+no_place o e = (ap (λ k. option_map_or is_file_place k false) e, ap (λ k. option_map_or is_folder_place k false) e)
 
-  -- all that stands inside is gone too
-  with_inside : ((q : PathView) → IsInside p q → place_at s q ≡ None) → (q : PathView) → IsBelow p q → (q ≡ p) ⊎ (place_at s q ≡ None)
-  with_inside bare q is = ⊎_elim (λ (e : q ≡ p). inl e) (λ (inside : IsInside p q). inr (bare q inside)) (here_or_inside p q is)
+-- a file that is cleared was away at some state
+pub file_away : (p : PathView) (r : Removed) (old new : FolderView) → new.token ≡ old.token → Call old new (RemovesFile p r) → clear_of r ≡ clear.Cleared → AtSome (state old) (moved old new) (λ s. is_file s p ≡ false)
+file_away p removed.NoFile old new same call done = (call.others, own_event old.token call.own, since_went old new _ (went_call old new (RemovesFile p removed.NoFile) call), call.answer.0)
+file_away p removed.Done old new same call done =
+    some_end (λ s. is_file s p ≡ false) old new (goes_call old new (RemovesFile p removed.Done) same call)
+    (ap (λ s. is_file s p) ends ∙ (no_place _ (removed_here (run (state old) call.others) old.token p)).0)
+  where
+    ends : state new ≡ after (run (state old) call.others) (old.token, Remove p)
+    ends =
+        now_went old new _ (went_call old new (RemovesFile p removed.Done) call)
+        ∙ run-append (state old) call.others (own_event old.token call.own)
+        ∙ ap (λ (o : Option Move). run (run (state old) call.others) (own_event old.token o)) call.answer.1
+file_away p removed.Failed old new same call done = cc
+file_away p removed.NoMemory old new same call done = cc
 
-  itself_may : (q : PathView) → q ≡ p → IsBelow p q
-  itself_may q e = subst (IsBelow p) (sym e) (below_self p)
+-- what stands in a folder keeps it
+not_kept : (s : State) (p : PathView) → is_fixed p ≡ false → IsEmptied p s → IsKept s p → ⊥
+not_kept s p free bare (inl fixed) = true≢false (sym fixed ∙ free)
+not_kept s p free bare (inr (q, has_parent, in_p, there)) =
+    let last = last_of q has_parent in
+    let none : place_at s q ≡ None = bare q (last.0, [], last.1 ∙ ap (λ (w : PathView). w ++ last.0 ∷ []) in_p) in
+    is_none (place_at s q) there none
+  where
+    is_none : (o : Option Place) → IsSome o → o ≡ None → ⊥
+    is_none None some e = true≢false (sym some)
+    is_none (Some k) some e = let h : Some k ≡ None = e in cc
 
-  file_inside : IsStoreName root p → (q : PathView) → IsInside p q → place_at s q ≡ None
-  file_inside name q (part, rest, e) = ap (place_at s) e ∙ nothing_inside s tidy.state p (name_path_long root p name) (name_no_folder root p s tidy name) part rest
-
-  pub file_taken : IsStoreName root p → (r : Removed) (own : Option Move) → RemovesFile p r s own → clear_of r ≡ clear.Cleared → Thinned (IsBelow p) (IsBelow p) s (run s (own_event token own))
-  file_taken name removed.NoFile own gives done =
-      none_left (λ q is. ⊎_elim (λ (e : q ≡ p). ap (place_at s) e ∙ file_gone root p s tidy name gives.0) (λ (none : place_at s q ≡ None). none) (with_inside (file_inside name) q is)) own gives.1
-  file_taken name removed.Done own gives done =
-      subst (λ (o : Option Move). Thinned (IsBelow p) (IsBelow p) s (run s (own_event token o))) (sym gives.1)
-      (thinned_as (λ q. q ≡ p) (IsBelow p) (λ q. q ≡ p) (IsBelow p) s (after s (token, Remove p)) itself_may (with_inside (file_inside name)) (thinned_remove s token p))
-  file_taken name removed.Failed own gives done = cc
-  file_taken name removed.NoMemory own gives done = cc
-
-  not_kept : is_fixed p ≡ false → IsEmptied p s → IsKept s p → ⊥
-  not_kept free bare (inl fixed) = true≢false (sym fixed ∙ free)
-  not_kept free bare (inr (q, has_parent, in_p, there)) =
-      let last = last_of q has_parent in
-      let none : place_at s q ≡ None = bare q (last.0, [], last.1 ∙ ap (λ (w : PathView). w ++ last.0 ∷ []) in_p) in
-      is_none (place_at s q) there none
-    where
-      is_none : (o : Option Place) → IsSome o → o ≡ None → ⊥
-      is_none None some e = true≢false (sym some)
-      is_none (Some k) some e = let h : Some k ≡ None = e in cc
-
-  pub folder_taken : IsPlace root p → IsEmptied p s → (r : RemovedDir) (own : Option Move) → RemovesFolder p r s own → clear_of_folder r ≡ clear.Cleared → Thinned (IsBelow p) (IsBelow p) s (run s (own_event token own))
-  folder_taken place bare removed_dir.NoDir own gives done =
-      none_left (λ q is. ⊎_elim (λ (e : q ≡ p). ap (place_at s) e ∙ place_gone root p s tidy place.0 gives.0) (λ (none : place_at s q ≡ None). none) (with_inside bare q is)) own gives.1
-  folder_taken place bare removed_dir.NotEmpty own gives done = absurd (not_kept place.1 bare gives.1)
-  folder_taken place bare removed_dir.Done own gives done =
-      subst (λ (o : Option Move). Thinned (IsBelow p) (IsBelow p) s (run s (own_event token o))) (sym gives.3)
-      (thinned_as (λ q. q ≡ p) (IsBelow p) (λ q. q ≡ p) (IsBelow p) s (after s (token, RemoveDir p)) itself_may (with_inside bare) (thinned_remove_dir s token p))
-  folder_taken place bare removed_dir.Failed own gives done = cc
-  folder_taken place bare removed_dir.NoMemory own gives done = cc
+-- alone, a folder in which nothing stands is gone where it is cleared
+pub folder_gone : (p : PathView) (r : RemovedDir) (old new : FolderView) → is_fixed p ≡ false → IsEmptied p (state old) → MovesAlone old new (RemovesFolder p r) → clear_of_folder r ≡ clear.Cleared → is_folder (state new) p ≡ false
+folder_gone p removed_dir.NoDir old new free bare one done =
+    ap (λ s. is_folder s p) (one.after ∙ ap (λ (o : Option Move). run (state old) (own_event old.token o)) one.answer.1) ∙ one.answer.0
+folder_gone p removed_dir.NotEmpty old new free bare one done = absurd (not_kept (state old) p free bare one.answer.1)
+folder_gone p removed_dir.Done old new free bare one done =
+    ap (λ s. is_folder s p) (one.after ∙ ap (λ (o : Option Move). run (state old) (own_event old.token o)) one.answer.3)
+    ∙ (no_place _ (unmade_here (state old) old.token p)).1
+folder_gone p removed_dir.Failed old new free bare one done = cc
+folder_gone p removed_dir.NoMemory old new free bare one done = cc

@@ -1,22 +1,26 @@
 -- What each part of a clearing does, and what it leaves where no other moved.
-use Rattle.std.specs.Prelude.{◌≡◌, ◌⊎◌, ℕ, false, List, [], ◌∷◌, ◌++◌, None, Some, Contains}
+use Rattle.std.specs.Prelude.{◌≡◌, ◌⊎◌, ℕ, false, List, [], ◌∷◌, ◌++◌, None, Contains}
 use Rattle.jl_text.specs.Paths.{PathView, is_fixed}
-use Rattle.jl_text.specs.Counts.{Rose}
 use Rattle.jl_folder.specs.declared.listing.Name.{Name}
-use Rattle.jl_folder.specs.declared.moves.Place.{Place}
-use Rattle.jl_folder.specs.State.{State, History, Opens, place_at, node_at, now, since}
+use Rattle.jl_folder.specs.State.{State, IsState, place_at, node_at, is_folder}
+use Rattle.jl_folder.specs.Views.{FolderView, FolderAnswers, state, moved}
 use Rattle.jl_folder.specs.Listing.{Stands}
 use Rattle.jl_entry.specs.Names.{IsStoreFolder, IsBelow, IsKeyName, IsCodeName}
 use Rattle.jl_rely.specs.Steps.{IsLone}
-use Rattle.jl_protocol.specs.Tidy.{IsTidy}
-use Rattle.jl_clear.specs.Doing.{Does}
-use Rattle.jl_clear.specs.Taking.{IsTaking, IsInside}
+use Rattle.jl_rely.specs.Claims.{Moves}
+use Rattle.jl_clear.specs.declared.removing.Clear.{Clear}
+use Rattle.jl_clear.specs.declared.removing.Clear.TheVariants.{Cleared, Fault}
+use Rattle.jl_clear.specs.Taking.{IsTaking, IsInside, IsOfStore, HasOnly, WentAway}
 
 -- ---- paths
 
 -- a folder of the store that can be taken away
 abbrev pub IsPlace : PathView → PathView → Type 0
 IsPlace root folder = IsStoreFolder root folder × (is_fixed folder ≡ false)
+
+-- no path
+abbrev pub NoPath : PathView → Type 0
+NoPath p = ⊥
 
 -- what stands in a folder at this part, if it is of that form
 abbrev pub ClearsPart : (Form : List ℕ → Type 0) → PathView → List ℕ → PathView → Type 0
@@ -30,6 +34,14 @@ IsOfEntries function p = (part : List ℕ) × ClearsPart IsKeyName function part
 abbrev pub Handled : (Form : List ℕ → Type 0) → PathView → List Name → PathView → Type 0
 Handled Form folder names p = (name : Name) × Contains names name × ClearsPart Form folder name.part p
 
+-- the name of an entry's folder or of the code's file
+abbrev pub IsFunctionPart : List ℕ → Type 0
+IsFunctionPart part = IsKeyName part ⊎ IsCodeName part
+
+-- it stands in the folder, behind a part of that form
+abbrev pub IsBehind : (Form : List ℕ → Type 0) → PathView → PathView → Type 0
+IsBehind Form folder p = (part : List ℕ) × (rest : PathView) × Form part × (p ≡ folder ++ part ∷ rest)
+
 -- ---- states
 
 -- nothing stands in the folder
@@ -40,22 +52,18 @@ IsEmptied folder s = (p : PathView) → IsInside folder p → place_at s p ≡ N
 abbrev pub HasAll : PathView → List Name → State → Type 0
 HasAll folder names s = (name : Name) → Stands s folder name → Contains names name
 
--- each name of the code's file in the folder is one of these, and nothing else stands there
-abbrev pub HasCode : PathView → List Name → State → Type 0
-HasCode folder names s =
-    HasAll folder names s × ((part : List ℕ) (place : Place) → place_at s (folder ++ part ∷ []) ≡ Some place → IsCodeName part)
-
--- each path names what it named, but that some of those that may go name nothing; these name nothing; and nodes are as before
-pub record Thinned (May Gone : PathView → Type 0) (before after : State) : Type 0 where
-  pub each : (p : PathView) → (place_at after p ≡ place_at before p) ⊎ (May p × (place_at after p ≡ None))
+-- each path names what it named, but that some of the store's among those that may go name nothing; and nodes are as before
+pub record Thinned (root : PathView) (May : PathView → Type 0) (before after : State) : Type 0 where
+  pub each : (p : PathView) → (place_at after p ≡ place_at before p) ⊎ (May p × IsOfStore root p × (place_at after p ≡ None))
   pub nodes : (n : ℕ) → node_at after n ≡ node_at before n
-  pub gone : (p : PathView) → Gone p → place_at after p ≡ None
 
 -- ---- parts of a clearing
 
--- Own moves alone that take away names of the store among those that may go; a fault rose where it is told.
--- Where it is done and no other moved, from a tidy state in which Pre held, these are gone, and nothing but those that may go.
-pub record Clears {D : Type 0} (token : D → List ℕ) (told : D → Type 0) (history : D → History) (opens : D → Opens) (faults : D → ℕ) (root : PathView) (Pre : State → Type 0) (May Gone : PathView → Type 0) (Done Failed : Type 0) (old new : D) : Type 0 where
-  pub does : Does token told history opens faults (IsTaking root May) old new
-  pub failed : Failed → Rose (faults old) (faults new)
-  pub alone : told old → Done → IsLone (token old) (since (history old) (history new)) → IsTidy root (now (history old)) → Pre (now (history old)) → Thinned May Gone (now (history old)) (now (history new))
+-- Own moves alone that take away names of the store among those that may go; a fault rose exactly where it is answered.
+-- Where all is cleared, each name of the store among `Went` was away at some state.
+-- Where no other moved besides, from a state in which Pre held, the folders among `Gone` are gone in which nothing else stood.
+pub record Clears (root : PathView) (Pre : State → Type 0) (May Went Gone : PathView → Type 0) (answer : Clear) (old new : FolderView) : Type 0 where
+  pub frame : FolderAnswers (answer ≡ Fault) old new
+  pub moves : old.told → Moves (IsTaking root May) old new
+  pub went : old.told → answer ≡ Cleared → IsState (state old) → WentAway root Went old new
+  pub alone : old.told → answer ≡ Cleared → IsState (state old) → IsLone old.token (moved old new) → Pre (state old) → (p : PathView) → Gone p → IsStoreFolder root p → HasOnly root p (state old) → is_folder (state new) p ≡ false

@@ -1,3 +1,4 @@
+pub mod Cleared
 pub mod Clearing
 pub mod Doing
 pub mod Removing

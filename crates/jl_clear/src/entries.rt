@@ -1,5 +1,5 @@
 // Clearing an entry's folder.
-ghost use Rattle.std.specs.Prelude.{◌≡◌, ◌++◌, ◌∷◌, [], All, IsTrue};
+ghost use Rattle.std.specs.Prelude.{◌≡◌, All, IsTrue};
 ghost use Rattle.jl_text.specs.Paths.{PathView, is_part};
 ghost use Rattle.jl_entry.specs.Names.{IsBelow, IsEntryName, IsEntryFolder};
 ghost use Rattle.jl_rely.specs.Claims.{Anywhere};
@@ -14,7 +14,7 @@ use std::alloc::Global;
 fn clear_entry_name<F: Folder>(alloc: Global, folder: &mut F, entry: &Path, part: &str) -> Clear
     requires { IsTrue (is_part part.now) }
     ensures { (root : PathView) → IsEntryFolder root entry.now →
-        Clears F.token F.told F.history F.opens F.faults root Anywhere (IsBelow entry.now) (ClearsPart IsEntryName entry.now part.now) (result ≡ Clear.Cleared) (result ≡ Clear.Fault) folder.old folder.new }
+        Clears root Anywhere (IsBelow entry.now) (ClearsPart IsEntryName entry.now part.now) (ClearsPart IsEntryName entry.now part.now) result (F.view folder.old) (F.view folder.new) }
 {
     if !is_entry_name(part) {
         return Clear::Cleared;
@@ -33,7 +33,7 @@ fn clear_entry_names<F: Folder>(
 ) -> Clear
     requires { All (λ n. IsTrue (is_part n.part)) names.now }
     ensures { (root : PathView) → IsEntryFolder root entry.now →
-        Clears F.token F.told F.history F.opens F.faults root Anywhere (IsBelow entry.now) (Handled IsEntryName entry.now names.now) (result ≡ Clear.Cleared) (result ≡ Clear.Fault) folder.old folder.new }
+        Clears root Anywhere (IsBelow entry.now) (Handled IsEntryName entry.now names.now) (Handled IsEntryName entry.now names.now) result (F.view folder.old) (F.view folder.new) }
 {
     for name in names {
         match clear_entry_name(alloc, folder, entry, name.part.as_str()) {
@@ -53,7 +53,7 @@ fn clear_entry_listed<F: Folder>(
 ) -> Clear
     requires { All (λ n. IsTrue (is_part n.part)) names.now }
     ensures { (root : PathView) → IsEntryFolder root entry.now →
-        Clears F.token F.told F.history F.opens F.faults root (HasAll entry.now names.now) (IsBelow entry.now) (IsBelow entry.now) (result ≡ Clear.Cleared) (result ≡ Clear.Fault) folder.old folder.new }
+        Clears root (HasAll entry.now names.now) (IsBelow entry.now) (Handled IsEntryName entry.now names.now) (IsBelow entry.now) result (F.view folder.old) (F.view folder.new) }
 {
     match clear_entry_names(alloc, folder, entry, names.as_slice()) {
         Clear::Cleared => clear_folder(folder, entry),
@@ -65,7 +65,7 @@ fn clear_entry_listed<F: Folder>(
 pub fn clear_entry<F: Folder>(alloc: Global, folder: &mut F, entry: &Path) -> Clear
     requires { (root : PathView) × IsEntryFolder root entry.now }
     ensures { (root : PathView) → IsEntryFolder root entry.now →
-        Clears F.token F.told F.history F.opens F.faults root Anywhere (IsBelow entry.now) (IsBelow entry.now) (result ≡ Clear.Cleared) (result ≡ Clear.Fault) folder.old folder.new }
+        Clears root Anywhere (IsBelow entry.now) (IsBelow entry.now) (IsBelow entry.now) result (F.view folder.old) (F.view folder.new) }
 {
     match folder.list(entry) {
         Listed::Names(names) => clear_entry_listed(alloc, folder, entry, &names),

@@ -1,9 +1,9 @@
 // Clearing a function's folder.
-ghost use Rattle.std.specs.Prelude.{◌≡◌, ◌⊎◌, ◌++◌, ◌∷◌, [], All, IsTrue};
+ghost use Rattle.std.specs.Prelude.{◌≡◌, All, IsTrue};
 ghost use Rattle.jl_text.specs.Paths.{PathView, is_part};
 ghost use Rattle.jl_entry.specs.Names.{IsBelow, IsFunctionFolder, IsCodeName, IsKeyName};
 ghost use Rattle.jl_rely.specs.Claims.{Anywhere};
-ghost use Rattle.jl_clear.specs.Clearing.{Clears, HasAll, HasCode, Handled, IsOfEntries, ClearsPart};
+ghost use Rattle.jl_clear.specs.Clearing.{Clears, HasAll, Handled, IsFunctionPart, IsOfEntries, ClearsPart};
 
 use crate::entries::clear_entry;
 use crate::removing::{Clear, clear_file, clear_folder};
@@ -16,7 +16,7 @@ fn clear_key<F: Folder>(alloc: Global, folder: &mut F, function: &Path, part: &s
     requires part { IsTrue (is_part part.now) }
     requires of_function { (root : PathView) × IsFunctionFolder root function.now }
     ensures { (root : PathView) → IsFunctionFolder root function.now →
-        Clears F.token F.told F.history F.opens F.faults root Anywhere (IsOfEntries function.now) (ClearsPart IsKeyName function.now part.now) (result ≡ Clear.Cleared) (result ≡ Clear.Fault) folder.old folder.new }
+        Clears root Anywhere (IsOfEntries function.now) (ClearsPart IsKeyName function.now part.now) (ClearsPart IsKeyName function.now part.now) result (F.view folder.old) (F.view folder.new) }
 {
     if !is_key_name(part) {
         return Clear::Cleared;
@@ -31,7 +31,7 @@ fn clear_keys<F: Folder>(alloc: Global, folder: &mut F, function: &Path, names: 
     requires parts { All (λ n. IsTrue (is_part n.part)) names.now }
     requires of_function { (root : PathView) × IsFunctionFolder root function.now }
     ensures { (root : PathView) → IsFunctionFolder root function.now →
-        Clears F.token F.told F.history F.opens F.faults root Anywhere (IsOfEntries function.now) (Handled IsKeyName function.now names.now) (result ≡ Clear.Cleared) (result ≡ Clear.Fault) folder.old folder.new }
+        Clears root Anywhere (IsOfEntries function.now) (Handled IsKeyName function.now names.now) (Handled IsKeyName function.now names.now) result (F.view folder.old) (F.view folder.new) }
 {
     for name in names {
         match clear_key(alloc, folder, function, name.part.as_str()) {
@@ -46,7 +46,7 @@ fn clear_keys<F: Folder>(alloc: Global, folder: &mut F, function: &Path, names: 
 pub fn clear_entries<F: Folder>(alloc: Global, folder: &mut F, function: &Path) -> Clear
     requires { (root : PathView) × IsFunctionFolder root function.now }
     ensures { (root : PathView) → IsFunctionFolder root function.now →
-        Clears F.token F.told F.history F.opens F.faults root Anywhere (IsOfEntries function.now) (IsOfEntries function.now) (result ≡ Clear.Cleared) (result ≡ Clear.Fault) folder.old folder.new }
+        Clears root Anywhere (IsOfEntries function.now) (IsOfEntries function.now) (IsOfEntries function.now) result (F.view folder.old) (F.view folder.new) }
 {
     match folder.list(function) {
         Listed::Names(names) => clear_keys(alloc, folder, function, names.as_slice()),
@@ -60,7 +60,7 @@ pub fn clear_entries<F: Folder>(alloc: Global, folder: &mut F, function: &Path) 
 fn clear_code_name<F: Folder>(alloc: Global, folder: &mut F, function: &Path, part: &str) -> Clear
     requires { IsTrue (is_part part.now) }
     ensures { (root : PathView) → IsFunctionFolder root function.now →
-        Clears F.token F.told F.history F.opens F.faults root Anywhere (IsBelow function.now) (ClearsPart IsCodeName function.now part.now) (result ≡ Clear.Cleared) (result ≡ Clear.Fault) folder.old folder.new }
+        Clears root Anywhere (IsBelow function.now) (ClearsPart IsCodeName function.now part.now) (ClearsPart IsCodeName function.now part.now) result (F.view folder.old) (F.view folder.new) }
 {
     if !is_code_name(part) {
         return Clear::Cleared;
@@ -79,7 +79,7 @@ fn clear_code_names<F: Folder>(
 ) -> Clear
     requires { All (λ n. IsTrue (is_part n.part)) names.now }
     ensures { (root : PathView) → IsFunctionFolder root function.now →
-        Clears F.token F.told F.history F.opens F.faults root Anywhere (IsBelow function.now) (Handled IsCodeName function.now names.now) (result ≡ Clear.Cleared) (result ≡ Clear.Fault) folder.old folder.new }
+        Clears root Anywhere (IsBelow function.now) (Handled IsCodeName function.now names.now) (Handled IsCodeName function.now names.now) result (F.view folder.old) (F.view folder.new) }
 {
     for name in names {
         match clear_code_name(alloc, folder, function, name.part.as_str()) {
@@ -90,24 +90,25 @@ fn clear_code_names<F: Folder>(
     Clear::Cleared
 }
 
-// Takes away the files that were listed in a function's folder, and the folder.
-fn clear_function_files<F: Folder>(
+// Takes away the entries that were listed in a function's folder, then its files.
+fn clear_function_parts<F: Folder>(
     alloc: Global,
     folder: &mut F,
     function: &Path,
     names: &[Name],
 ) -> Clear
-    requires { All (λ n. IsTrue (is_part n.part)) names.now }
+    requires parts { All (λ n. IsTrue (is_part n.part)) names.now }
+    requires of_function { (root : PathView) × IsFunctionFolder root function.now }
     ensures { (root : PathView) → IsFunctionFolder root function.now →
-        Clears F.token F.told F.history F.opens F.faults root (HasCode function.now names.now) (IsBelow function.now) (IsBelow function.now) (result ≡ Clear.Cleared) (result ≡ Clear.Fault) folder.old folder.new }
+        Clears root Anywhere (IsBelow function.now) (Handled IsFunctionPart function.now names.now) (Handled IsFunctionPart function.now names.now) result (F.view folder.old) (F.view folder.new) }
 {
-    match clear_code_names(alloc, folder, function, names) {
-        Clear::Cleared => clear_folder(folder, function),
+    match clear_keys(alloc, folder, function, names) {
+        Clear::Cleared => clear_code_names(alloc, folder, function, names),
         other => other,
     }
 }
 
-// Takes away the entries that were listed in a function's folder, then its files, and the folder.
+// Takes away what was listed in a function's folder, and the folder.
 fn clear_function_listed<F: Folder>(
     alloc: Global,
     folder: &mut F,
@@ -117,10 +118,10 @@ fn clear_function_listed<F: Folder>(
     requires parts { All (λ n. IsTrue (is_part n.part)) names.now }
     requires of_function { (root : PathView) × IsFunctionFolder root function.now }
     ensures { (root : PathView) → IsFunctionFolder root function.now →
-        Clears F.token F.told F.history F.opens F.faults root (HasAll function.now names.now) (IsBelow function.now) (IsBelow function.now) (result ≡ Clear.Cleared) (result ≡ Clear.Fault) folder.old folder.new }
+        Clears root (HasAll function.now names.now) (IsBelow function.now) (Handled IsFunctionPart function.now names.now) (IsBelow function.now) result (F.view folder.old) (F.view folder.new) }
 {
-    match clear_keys(alloc, folder, function, names.as_slice()) {
-        Clear::Cleared => clear_function_files(alloc, folder, function, names.as_slice()),
+    match clear_function_parts(alloc, folder, function, names.as_slice()) {
+        Clear::Cleared => clear_folder(folder, function),
         other => other,
     }
 }
@@ -133,7 +134,7 @@ pub(crate) fn clear_function_folder<F: Folder>(
 ) -> Clear
     requires { (root : PathView) × IsFunctionFolder root function.now }
     ensures { (root : PathView) → IsFunctionFolder root function.now →
-        Clears F.token F.told F.history F.opens F.faults root Anywhere (IsBelow function.now) (IsBelow function.now) (result ≡ Clear.Cleared) (result ≡ Clear.Fault) folder.old folder.new }
+        Clears root Anywhere (IsBelow function.now) (IsBelow function.now) (IsBelow function.now) result (F.view folder.old) (F.view folder.new) }
 {
     match folder.list(function) {
         Listed::Names(names) => clear_function_listed(alloc, folder, function, &names),

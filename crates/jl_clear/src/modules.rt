@@ -1,5 +1,5 @@
 // Clearing the folders of modules.
-ghost use Rattle.std.specs.Prelude.{◌≡◌, ◌++◌, ◌∷◌, [], All, IsTrue};
+ghost use Rattle.std.specs.Prelude.{◌≡◌, All, IsTrue};
 ghost use Rattle.jl_text.specs.Paths.{PathView, is_part};
 ghost use Rattle.jl_entry.specs.Names.{IsBelow, IsModuleFolder, IsNameOf};
 ghost use Rattle.jl_rely.specs.Claims.{Anywhere};
@@ -17,7 +17,7 @@ fn clear_function_name<F: Folder>(alloc: Global, folder: &mut F, module: &Path, 
     requires part { IsTrue (is_part part.now) }
     requires of_module { (root : PathView) × IsModuleFolder root «module».now }
     ensures { (root : PathView) → IsModuleFolder root «module».now →
-        Clears F.token F.told F.history F.opens F.faults root Anywhere (IsBelow «module».now) (ClearsPart IsNameOf «module».now part.now) (result ≡ Clear.Cleared) (result ≡ Clear.Fault) folder.old folder.new }
+        Clears root Anywhere (IsBelow «module».now) (ClearsPart IsNameOf «module».now part.now) (ClearsPart IsNameOf «module».now part.now) result (F.view folder.old) (F.view folder.new) }
 {
     if !is_name(part) {
         return Clear::Cleared;
@@ -37,7 +37,7 @@ fn clear_function_names<F: Folder>(
     requires parts { All (λ n. IsTrue (is_part n.part)) names.now }
     requires of_module { (root : PathView) × IsModuleFolder root «module».now }
     ensures { (root : PathView) → IsModuleFolder root «module».now →
-        Clears F.token F.told F.history F.opens F.faults root Anywhere (IsBelow «module».now) (Handled IsNameOf «module».now names.now) (result ≡ Clear.Cleared) (result ≡ Clear.Fault) folder.old folder.new }
+        Clears root Anywhere (IsBelow «module».now) (Handled IsNameOf «module».now names.now) (Handled IsNameOf «module».now names.now) result (F.view folder.old) (F.view folder.new) }
 {
     for name in names {
         match clear_function_name(alloc, folder, module, name.part.as_str()) {
@@ -58,7 +58,7 @@ fn clear_module_listed<F: Folder>(
     requires parts { All (λ n. IsTrue (is_part n.part)) names.now }
     requires of_module { (root : PathView) × IsModuleFolder root «module».now }
     ensures { (root : PathView) → IsModuleFolder root «module».now →
-        Clears F.token F.told F.history F.opens F.faults root (HasAll «module».now names.now) (IsBelow «module».now) (IsBelow «module».now) (result ≡ Clear.Cleared) (result ≡ Clear.Fault) folder.old folder.new }
+        Clears root (HasAll «module».now names.now) (IsBelow «module».now) (Handled IsNameOf «module».now names.now) (IsBelow «module».now) result (F.view folder.old) (F.view folder.new) }
 {
     match clear_function_names(alloc, folder, module, names.as_slice()) {
         Clear::Cleared => clear_folder(folder, module),
@@ -70,7 +70,7 @@ fn clear_module_listed<F: Folder>(
 pub(crate) fn clear_module_folder<F: Folder>(alloc: Global, folder: &mut F, module: &Path) -> Clear
     requires { (root : PathView) × IsModuleFolder root «module».now }
     ensures { (root : PathView) → IsModuleFolder root «module».now →
-        Clears F.token F.told F.history F.opens F.faults root Anywhere (IsBelow «module».now) (IsBelow «module».now) (result ≡ Clear.Cleared) (result ≡ Clear.Fault) folder.old folder.new }
+        Clears root Anywhere (IsBelow «module».now) (IsBelow «module».now) (IsBelow «module».now) result (F.view folder.old) (F.view folder.new) }
 {
     match folder.list(module) {
         Listed::Names(names) => clear_module_listed(alloc, folder, module, &names),
@@ -83,7 +83,7 @@ pub(crate) fn clear_module_folder<F: Folder>(alloc: Global, folder: &mut F, modu
 // Takes away a module's folder of the root, if this is the name of one.
 fn clear_module_name<F: Folder>(alloc: Global, folder: &mut F, root: &Path, part: &str) -> Clear
     requires { IsTrue (is_part part.now) }
-    ensures { Clears F.token F.told F.history F.opens F.faults root.now Anywhere (IsInside root.now) (ClearsPart IsNameOf root.now part.now) (result ≡ Clear.Cleared) (result ≡ Clear.Fault) folder.old folder.new }
+    ensures { Clears root.now Anywhere (IsInside root.now) (ClearsPart IsNameOf root.now part.now) (ClearsPart IsNameOf root.now part.now) result (F.view folder.old) (F.view folder.new) }
 {
     if !is_name(part) {
         return Clear::Cleared;
@@ -102,7 +102,7 @@ fn clear_module_names<F: Folder>(
     names: &[Name],
 ) -> Clear
     requires { All (λ n. IsTrue (is_part n.part)) names.now }
-    ensures { Clears F.token F.told F.history F.opens F.faults root.now Anywhere (IsInside root.now) (Handled IsNameOf root.now names.now) (result ≡ Clear.Cleared) (result ≡ Clear.Fault) folder.old folder.new }
+    ensures { Clears root.now Anywhere (IsInside root.now) (Handled IsNameOf root.now names.now) (Handled IsNameOf root.now names.now) result (F.view folder.old) (F.view folder.new) }
 {
     for name in names {
         match clear_module_name(alloc, folder, root, name.part.as_str()) {
@@ -115,7 +115,7 @@ fn clear_module_names<F: Folder>(
 
 /// Takes away the modules' folders of the root, which stays.
 pub(crate) fn clear_root<F: Folder>(alloc: Global, folder: &mut F, root: &Path) -> Clear
-    ensures { Clears F.token F.told F.history F.opens F.faults root.now Anywhere (IsInside root.now) (IsInside root.now) (result ≡ Clear.Cleared) (result ≡ Clear.Fault) folder.old folder.new }
+    ensures { Clears root.now Anywhere (IsInside root.now) (IsInside root.now) (IsInside root.now) result (F.view folder.old) (F.view folder.new) }
 {
     match folder.list(root) {
         Listed::Names(names) => clear_module_names(alloc, folder, root, names.as_slice()),

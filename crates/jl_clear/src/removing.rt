@@ -4,7 +4,7 @@ ghost use Rattle.jl_text.specs.Paths.{PathView};
 ghost use Rattle.jl_entry.specs.Names.{IsBelow, IsStoreName};
 ghost use Rattle.jl_rely.specs.Claims.{Anywhere};
 ghost use Rattle.jl_clear.specs.Removing.{clear_of, clear_of_folder};
-ghost use Rattle.jl_clear.specs.Clearing.{Clears, IsPlace, IsEmptied};
+ghost use Rattle.jl_clear.specs.Clearing.{Clears, IsPlace, IsEmptied, NoPath};
 
 use jl_folder::{Folder, Path, Removed, RemovedDir};
 
@@ -44,7 +44,7 @@ fn as_cleared_folder(removed: RemovedDir) -> Clear
 /// Takes away a file, if it is there.
 pub(crate) fn clear_file<F: Folder>(folder: &mut F, path: &Path) -> Clear
     ensures { (root : PathView) → IsStoreName root path.now →
-        Clears F.token F.told F.history F.opens F.faults root Anywhere (IsBelow path.now) (IsBelow path.now) (result ≡ Clear.Cleared) (result ≡ Clear.Fault) folder.old folder.new }
+        Clears root Anywhere (IsBelow path.now) (IsBelow path.now) (IsBelow path.now) result (F.view folder.old) (F.view folder.new) }
 {
     let removed = folder.remove(path);
     as_cleared(removed)
@@ -53,7 +53,7 @@ pub(crate) fn clear_file<F: Folder>(folder: &mut F, path: &Path) -> Clear
 /// Takes away a folder, if it is there and nothing stands in it.
 pub(crate) fn clear_folder<F: Folder>(folder: &mut F, path: &Path) -> Clear
     ensures { (root : PathView) → IsPlace root path.now →
-        Clears F.token F.told F.history F.opens F.faults root (IsEmptied path.now) (IsBelow path.now) (IsBelow path.now) (result ≡ Clear.Cleared) (result ≡ Clear.Fault) folder.old folder.new }
+        Clears root (IsEmptied path.now) (IsBelow path.now) NoPath (IsBelow path.now) result (F.view folder.old) (F.view folder.new) }
 {
     let removed = folder.remove_dir(path);
     as_cleared_folder(removed)

@@ -1,31 +1,31 @@
-use Rattle.std.proofs.Common.{◌≡◌, ◌∷◌, [], subst}
+use Rattle.std.proofs.Common.{◌∷◌, [], subst}
 use Rattle.jl_text.specs.Paths.{PathView}
 use Rattle.jl_entry.specs.Names.{IsBelow, below, root_of}
 use Rattle.jl_rely.specs.Claims.{Anywhere}
-use Rattle.jl_clear.specs.declared.removing.Clear.TheVariants.{Cleared, Fault, NoMemory}
+use Rattle.jl_rely.proofs.Seen.{told_state}
+use Rattle.jl_clear.specs.declared.removing.Clear.TheVariants.{NoMemory}
 use Rattle.jl_clear.specs.Clearing.{Clears}
+use Rattle.jl_clear.proofs.Paths.{below_more}
 use Rattle.jl_clear.proofs.Parts.{clears_none}
-use Rattle.jl_clear.proofs.Claims.{claims_faults, claims_called, claims_lawful, claims_alone}
+use Rattle.jl_clear.proofs.Claims.{claims}
 use Rattle.jl_clear.proofs.clear.clear_module.Goals as goal
 
 pub clear_module_folder-requires : goal.clear_module_folder-requires
 clear_module_folder-requires g c = (root_of c.args.location.now, (c.args.«module».now, c.requires.module_name, c.in-Ok.ensures))
 
-pub returns-in_default-clause-called : goal.returns-in_default-clause-called
-returns-in_default-clause-called g c = claims_called g.F.Folder.token g.F.Folder.told g.F.Folder.history g.F.Folder.opens g.F.Folder.faults (root_of c.args.location.now) (IsBelow (below (root_of c.args.location.now) (c.args.«module».now ∷ []))) (NoMemory ≡ Cleared) (NoMemory ≡ Fault) c.args.folder.now c.args.folder.now (clears_none g.F.Folder.token g.F.Folder.told g.F.Folder.history g.F.Folder.opens g.F.Folder.faults (root_of c.args.location.now) Anywhere (IsBelow (below (root_of c.args.location.now) (c.args.«module».now ∷ []))) (IsBelow (below (root_of c.args.location.now) (c.args.«module».now ∷ []))) (NoMemory ≡ Cleared) (NoMemory ≡ Fault) c.args.folder.now (λ f. cc) (λ done. cc))
-
-pub returns-in_default-clause-lawful : goal.returns-in_default-clause-lawful
-returns-in_default-clause-lawful g c = claims_lawful g.F.Folder.token g.F.Folder.told g.F.Folder.history g.F.Folder.opens g.F.Folder.faults (root_of c.args.location.now) (IsBelow (below (root_of c.args.location.now) (c.args.«module».now ∷ []))) (NoMemory ≡ Cleared) (NoMemory ≡ Fault) c.args.folder.now c.args.folder.now (clears_none g.F.Folder.token g.F.Folder.told g.F.Folder.history g.F.Folder.opens g.F.Folder.faults (root_of c.args.location.now) Anywhere (IsBelow (below (root_of c.args.location.now) (c.args.«module».now ∷ []))) (IsBelow (below (root_of c.args.location.now) (c.args.«module».now ∷ []))) (NoMemory ≡ Cleared) (NoMemory ≡ Fault) c.args.folder.now (λ f. cc) (λ done. cc))
+pub returns-in_default : goal.returns-in_default
+returns-in_default g c =
+    let root = root_of c.args.location.now in
+    let v = g.F.Folder.view c.args.folder.now in
+    let a = clears_none root Anywhere (IsBelow (below root (c.args.«module».now ∷ []))) (IsBelow (below root (c.args.«module».now ∷ []))) (IsBelow (below root (c.args.«module».now ∷ []))) NoMemory v (λ f. cc) (λ done. cc) (λ done. cc) in
+    record { frame = a.frame; clears = λ t. claims root (IsBelow (below root (c.args.«module».now ∷ []))) NoMemory v v a t (told_state v (g.met.F.Folder.lawful c.args.folder.now t)) (λ p of. below_more root (c.args.«module».now ∷ []) p of) }
 
 pub returns : goal.returns
 returns g c =
-    let a = (subst (λ (p : PathView). Clears g.F.Folder.token g.F.Folder.told g.F.Folder.history g.F.Folder.opens g.F.Folder.faults (root_of c.args.location.now) Anywhere (IsBelow p) (IsBelow p) (c.clear_module_folder.result ≡ Cleared) (c.clear_module_folder.result ≡ Fault) c.args.folder.now c.clear_module_folder.new.folder) c.in-Ok.ensures (c.clear_module_folder.ensures (root_of c.args.location.now) (c.args.«module».now, c.requires.module_name, c.in-Ok.ensures))) in
+    let root = root_of c.args.location.now in
+    let v = g.F.Folder.view in
+    let a = subst (λ (p : PathView). Clears root Anywhere (IsBelow p) (IsBelow p) (IsBelow p) c.clear_module_folder.result (v c.args.folder.now) (v c.clear_module_folder.new.folder)) c.in-Ok.ensures (c.clear_module_folder.ensures root (c.args.«module».now, c.requires.module_name, c.in-Ok.ensures)) in
     record {
-      told = a.does.tells;
-      token = a.does.same_token;
-      opens = a.does.same_opens;
-      faults = claims_faults g.F.Folder.token g.F.Folder.told g.F.Folder.history g.F.Folder.opens g.F.Folder.faults (root_of c.args.location.now) (IsBelow (below (root_of c.args.location.now) (c.args.«module».now ∷ []))) (c.clear_module_folder.result ≡ Cleared) (c.clear_module_folder.result ≡ Fault) c.args.folder.now c.clear_module_folder.new.folder a;
-      called = claims_called g.F.Folder.token g.F.Folder.told g.F.Folder.history g.F.Folder.opens g.F.Folder.faults (root_of c.args.location.now) (IsBelow (below (root_of c.args.location.now) (c.args.«module».now ∷ []))) (c.clear_module_folder.result ≡ Cleared) (c.clear_module_folder.result ≡ Fault) c.args.folder.now c.clear_module_folder.new.folder a;
-      lawful = claims_lawful g.F.Folder.token g.F.Folder.told g.F.Folder.history g.F.Folder.opens g.F.Folder.faults (root_of c.args.location.now) (IsBelow (below (root_of c.args.location.now) (c.args.«module».now ∷ []))) (c.clear_module_folder.result ≡ Cleared) (c.clear_module_folder.result ≡ Fault) c.args.folder.now c.clear_module_folder.new.folder a;
-      alone = claims_alone g.F.Folder.token g.F.Folder.told g.F.Folder.history g.F.Folder.opens g.F.Folder.faults (root_of c.args.location.now) (IsBelow (below (root_of c.args.location.now) (c.args.«module».now ∷ []))) (c.clear_module_folder.result ≡ Cleared) (c.clear_module_folder.result ≡ Fault) c.args.folder.now c.clear_module_folder.new.folder a;
+      frame = a.frame;
+      clears = λ t. claims root (IsBelow (below root (c.args.«module».now ∷ []))) c.clear_module_folder.result (v c.args.folder.now) (v c.clear_module_folder.new.folder) a t (told_state (v c.args.folder.now) (g.met.F.Folder.lawful c.args.folder.now t)) (λ p of. below_more root (c.args.«module».now ∷ []) p of);
     }

@@ -1,8 +1,6 @@
-use Rattle.std.proofs.Common.{◌≡◌, ◌∙◌, ◌∷◌, [], true≢false, sym, subst}
+use Rattle.std.proofs.Common.{◌∙◌, ◌∷◌, [], true≢false, sym, subst}
 use Rattle.jl_entry.specs.Names.{IsBelow, IsFunctionFolder, IsNameOf}
-use Rattle.jl_rely.specs.Claims.{Anywhere}
-use Rattle.jl_clear.specs.declared.removing.Clear.TheVariants.{Cleared, Fault, NoMemory}
-use Rattle.jl_clear.specs.Clearing.{ClearsPart}
+use Rattle.jl_clear.specs.declared.removing.Clear.TheVariants.{Cleared, NoMemory}
 use Rattle.jl_clear.proofs.Paths.{below_more}
 use Rattle.jl_clear.proofs.Folders.{function_in}
 use Rattle.jl_clear.proofs.Parts.{clears_none, clears_part}
@@ -16,16 +14,15 @@ clear_function_folder-requires g c =
 
 pub returns-then-not-is_name : goal.returns-then-not-is_name
 returns-then-not-is_name g c = λ root of.
-    clears_none g.F.Folder.token g.F.Folder.told g.F.Folder.history g.F.Folder.opens g.F.Folder.faults root Anywhere (IsBelow c.args.«module».now) (ClearsPart IsNameOf c.args.«module».now c.args.part.now) (Cleared ≡ Cleared) (Cleared ≡ Fault) c.args.folder.now (λ f. cc)
-    (λ done p is. let no = c.is_name.ensures.name ∙ is.0 in true≢false (sym no ∙ c.if-not-is_name.true))
+    clears_none root _ _ _ _ Cleared (g.F.Folder.view c.args.folder.now) (λ f. cc) (λ done p is. let no = c.is_name.ensures.name ∙ is.0 in true≢false (sym no ∙ c.if-not-is_name.true)) (λ done p is. let no = c.is_name.ensures.name ∙ is.0 in true≢false (sym no ∙ c.if-not-is_name.true))
 
 pub returns-in_default : goal.returns-in_default
-returns-in_default g c = λ root of.
-    clears_none g.F.Folder.token g.F.Folder.told g.F.Folder.history g.F.Folder.opens g.F.Folder.faults root Anywhere (IsBelow c.args.«module».now) (ClearsPart IsNameOf c.args.«module».now c.args.part.now) (NoMemory ≡ Cleared) (NoMemory ≡ Fault) c.args.folder.now (λ f. cc) (λ done. cc)
+returns-in_default g c = λ root of. clears_none root _ _ _ _ NoMemory (g.F.Folder.view c.args.folder.now) (λ f. cc) (λ done. cc) (λ done. cc)
 
 pub returns : goal.returns
 returns g c = λ root of.
+    let v = g.F.Folder.view in
     let is : IsNameOf c.args.part.now = sym c.is_name.ensures.name ∙ c.if-not-is_name.false in
-    clears_part g.F.Folder.token g.F.Folder.told g.F.Folder.history g.F.Folder.opens g.F.Folder.faults root IsNameOf c.args.«module».now _ c.args.part.now (IsBelow c.args.«module».now) (c.clear_function_folder.result ≡ Cleared) (c.clear_function_folder.result ≡ Fault) c.args.folder.now c.clear_function_folder.new.folder c.in-Ok.ensures
+    clears_part root IsNameOf c.args.«module».now _ c.args.part.now (IsBelow c.args.«module».now) c.clear_function_folder.result (v c.args.folder.now) (v c.clear_function_folder.new.folder) c.in-Ok.ensures
     (λ p is. below_more c.args.«module».now (c.args.part.now ∷ []) p is)
     (c.clear_function_folder.ensures root (subst (IsFunctionFolder root) (sym c.in-Ok.ensures) (function_in root c.args.«module».now c.args.part.now of is)))

@@ -1,29 +1,28 @@
-use Rattle.std.proofs.Common.{◌≡◌, ◌+◌, ◌∙◌, ◌++◌, ◌∷◌, [], take, sym, ap, refl, add-one}
+use Rattle.std.proofs.Common.{◌≡◌, ◌+◌, ◌∙◌, ◌++◌, ◌∷◌, [], take, sym, ap, add-one}
 use Rattle.std.proofs.Math.Seq.{take-suc}
 use Rattle.std.proofs.lemmas.List.{take_all}
 use Rattle.jl_entry.specs.Names.{IsBelow, IsNameOf}
-use Rattle.jl_rely.specs.Claims.{Anywhere}
-use Rattle.jl_clear.specs.declared.removing.Clear.TheVariants.{Cleared, Fault}
-use Rattle.jl_clear.specs.Clearing.{ClearsPart, Handled}
 use Rattle.jl_clear.proofs.Parts.{clears_start, clears_more, clears_every, clears_stop}
 use Rattle.jl_clear.proofs.modules.clear_function_names.Goals as goal
 
 pub loop-name-init : goal.loop-name-init
-loop-name-init g c = λ root of. clears_start g.F.Folder.token g.F.Folder.told g.F.Folder.history g.F.Folder.opens g.F.Folder.faults root IsNameOf c.args.«module».now c.args.names.now (IsBelow c.args.«module».now) c.args.folder.now
+loop-name-init g c = λ root of. clears_start root IsNameOf c.args.«module».now c.args.names.now (IsBelow c.args.«module».now) (g.F.Folder.view c.args.folder.now)
 
 pub loop-name-preserved : goal.loop-name-preserved
 loop-name-preserved g c = λ root of.
+    let v = g.F.Folder.view in
     let names = c.args.names.now in
     let i = c.loop-name.name-index in
     let item = c.name-item.result in
     let grown : take (i + 1) names ≡ take i names ++ item ∷ [] = ap (λ n. take n names) (add-one i) ∙ take-suc names i item c.loop-name-test.true ∙ ap (λ x. take i names ++ x ∷ []) (sym c.name-item.is) in
-    clears_more g.F.Folder.token g.F.Folder.told g.F.Folder.history g.F.Folder.opens g.F.Folder.faults root IsNameOf c.args.«module».now names i item c.as_str.result.now (IsBelow c.args.«module».now) (Cleared ≡ Cleared) (Cleared ≡ Fault) c.args.folder.now c.loop-name.folder c.clear_function_name.new.folder grown c.as_str.ensures refl (c.loop-name.invariant root of) (c.in-Cleared.ensures root of)
+    clears_more root IsNameOf c.args.«module».now names (IsBelow c.args.«module».now) i item c.as_str.result.now (v c.args.folder.now) (v c.loop-name.folder) (v c.clear_function_name.new.folder) grown c.as_str.ensures (c.loop-name.invariant root of) (c.in-Cleared.ensures root of)
 
 pub returns-in_default : goal.returns-in_default
 returns-in_default g c = λ root of.
-    clears_stop g.F.Folder.token g.F.Folder.told g.F.Folder.history g.F.Folder.opens g.F.Folder.faults root Anywhere Anywhere (IsBelow c.args.«module».now) (Handled IsNameOf c.args.«module».now (take c.loop-name.name-index c.args.names.now)) (ClearsPart IsNameOf c.args.«module».now c.as_str.result.now) (Handled IsNameOf c.args.«module».now c.args.names.now)
-    (Unit {0}) (c.clear_function_name.result ≡ Cleared) (c.clear_function_name.result ≡ Cleared) (c.clear_function_name.result ≡ Fault) (c.clear_function_name.result ≡ Fault) c.args.folder.now c.loop-name.folder c.clear_function_name.new.folder c.in_default.not-Cleared (λ f. f) (c.loop-name.invariant root of) (c.clear_function_name.ensures root of)
+    let v = g.F.Folder.view in
+    clears_stop root _ _ _ _ _ _ _ _ _ _ c.clear_function_name.result (v c.args.folder.now) (v c.loop-name.folder) (v c.clear_function_name.new.folder) c.in_default.not-Cleared (c.loop-name.invariant root of) (c.clear_function_name.ensures root of)
 
 pub returns : goal.returns
 returns g c = λ root of.
-    clears_every g.F.Folder.token g.F.Folder.told g.F.Folder.history g.F.Folder.opens g.F.Folder.faults root IsNameOf c.args.«module».now c.args.names.now c.loop-name.name-index (IsBelow c.args.«module».now) (Cleared ≡ Cleared) (Cleared ≡ Fault) c.args.folder.now c.loop-name.folder (take_all c.loop-name.name-index c.args.names.now c.loop-name-test.false) (λ f. cc) (c.loop-name.invariant root of)
+    let v = g.F.Folder.view in
+    clears_every root IsNameOf c.args.«module».now c.args.names.now (IsBelow c.args.«module».now) c.loop-name.name-index (v c.args.folder.now) (v c.loop-name.folder) (take_all c.loop-name.name-index c.args.names.now c.loop-name-test.false) (c.loop-name.invariant root of)

@@ -1,26 +1,33 @@
-use Rattle.std.proofs.Common.{◌≡◌, refl}
-use Rattle.jl_entry.specs.Names.{IsBelow}
+use Rattle.std.proofs.Common.{refl, inl}
+use Rattle.jl_entry.specs.Names.{IsBelow, IsNameOf}
 use Rattle.jl_clear.specs.declared.removing.Clear.TheVariants.{Cleared, Fault, NoMemory}
-use Rattle.jl_clear.proofs.Folders.{module_place, module_place_long}
-use Rattle.jl_clear.proofs.Listings.{clears_listed, clears_waits, clears_absent}
+use Rattle.jl_clear.proofs.Folders.{name_there, module_inner, name_inside, module_place, module_place_long}
+use Rattle.jl_clear.proofs.Listings.{clears_listed, clears_unlisted, clears_absent, absent_name, absent_folder}
 use Rattle.jl_clear.proofs.modules.clear_module_folder.Goals as goal
 
 pub returns-in-Names : goal.returns-in-Names
 returns-in-Names g c = λ root of.
-    let e = c.list.ensures in
-    clears_listed g.F.Folder.token g.F.Folder.told g.F.Folder.history g.F.Folder.opens g.F.Folder.faults root c.args.«module».now c.in-Names.names (IsBelow c.args.«module».now) (IsBelow c.args.«module».now) (c.clear_module_listed.result ≡ Cleared) (c.clear_module_listed.result ≡ Fault) c.args.folder.now c.list.new.self c.clear_module_listed.new.folder e.told e.token e.opens e.faults.later e.waits c.in-Names.ensures.names (c.clear_module_listed.ensures root of)
+    let v = g.F.Folder.view in
+    let path = c.args.«module».now in
+    clears_listed root path IsNameOf c.in-Names.names name_there (IsBelow path) (IsBelow path) (IsBelow path) c.clear_module_listed.result (v c.args.folder.now) (v c.list.new.self) (v c.clear_module_listed.new.folder)
+    (λ p below name. module_inner root path p of (name_inside root path p (module_place root path of).0 below name) (inl name)) c.in-Names.ensures.frame (λ f. cc) c.list.ensures.waits c.in-Names.ensures.names
+    (c.clear_module_listed.ensures root of)
 
 pub returns-in-NoDir : goal.returns-in-NoDir
 returns-in-NoDir g c = λ root of.
-    let e = c.list.ensures in
-    clears_absent g.F.Folder.token g.F.Folder.told g.F.Folder.history g.F.Folder.opens g.F.Folder.faults root c.args.«module».now (IsBelow c.args.«module».now) (IsBelow c.args.«module».now) (Cleared ≡ Cleared) (Cleared ≡ Fault) c.args.folder.now c.list.new.self (λ p is. is) (module_place root c.args.«module».now of) (module_place_long root c.args.«module».now of) e.told e.token e.opens e.faults.later (λ f. cc) e.waits c.in-NoDir.ensures.names
+    let v = g.F.Folder.view in
+    let path = c.args.«module».now in
+    clears_absent root (IsBelow path) (IsBelow path) (IsBelow path) Cleared (v c.args.folder.now) (v c.list.new.self) c.in-NoDir.ensures.frame (λ f. cc) (λ f. cc) c.list.ensures.waits path
+    (absent_name root path (module_place root path of).0 (module_place_long root path of))
+    (absent_folder path (module_place_long root path of))
+    c.in-NoDir.ensures.names
 
 pub returns-in-Failed : goal.returns-in-Failed
 returns-in-Failed g c = λ root of.
-    let e = c.list.ensures in
-    clears_waits g.F.Folder.token g.F.Folder.told g.F.Folder.history g.F.Folder.opens g.F.Folder.faults root (IsBelow c.args.«module».now) (IsBelow c.args.«module».now) (Fault ≡ Cleared) (Fault ≡ Fault) c.args.folder.now c.list.new.self e.told e.token e.opens e.faults.later (λ f. c.in-Failed.ensures.faults.failed refl) e.waits (λ t done. cc)
+    let v = g.F.Folder.view in
+    clears_unlisted root _ _ _ Fault (v c.args.folder.now) (v c.list.new.self) c.in-Failed.ensures.frame (λ f. refl) (λ f. refl) c.list.ensures.waits (λ done. cc)
 
 pub returns-in-NoMemory : goal.returns-in-NoMemory
 returns-in-NoMemory g c = λ root of.
-    let e = c.list.ensures in
-    clears_waits g.F.Folder.token g.F.Folder.told g.F.Folder.history g.F.Folder.opens g.F.Folder.faults root (IsBelow c.args.«module».now) (IsBelow c.args.«module».now) (NoMemory ≡ Cleared) (NoMemory ≡ Fault) c.args.folder.now c.list.new.self e.told e.token e.opens e.faults.later (λ f. cc) e.waits (λ t done. cc)
+    let v = g.F.Folder.view in
+    clears_unlisted root _ _ _ NoMemory (v c.args.folder.now) (v c.list.new.self) c.in-NoMemory.ensures.frame (λ f. cc) (λ f. cc) c.list.ensures.waits (λ done. cc)
