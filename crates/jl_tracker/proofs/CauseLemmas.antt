@@ -16,6 +16,7 @@ use Rattle.jl_folder.specs.declared.moves.Move.TheVariants.{Remove}
 use Rattle.jl_folder.proofs.Looks.{place_at-after}
 use Rattle.jl_folder.proofs.Traces.{run-append}
 use Rattle.jl_folder.proofs.ReadingLemmas.{since-is, now-on}
+use Rattle.jl_tracker.specs.Stages.{FolderPoint}
 use Rattle.jl_tracker.specs.Removing.{TriesFile, TriesFolder, TriedName, TriedNames, TriedFolder, RemovesFolder}
 use Rattle.jl_tracker.specs.Causes.{WentAway, HasCause}
 
@@ -83,25 +84,25 @@ gone_after s me q = ap (λ o. option_map_or is_file_place o false) (place_at-aft
     gone = ap (λ v. option_map_or is_file_place (cond v None (place_at s q)) false) ((lists_equiv nat_list_eq_equiv).refl q)
 
 -- a name that was tried: its file was away at some state, or the count rose
-record TriedOne (folder : Bool) (q : PathView) (a m : History) (f n : ℕ) : Type 0 where
+record TriedOne (folder : Bool) (q : PathView) (a m : FolderPoint) : Type 0 where
   moves : Trace
-  steps : Steps a m moves
-  later : f ≤ n
-  gone : folder ≡ false → Rose f n ⊎ AtSome (now a) moves (λ x. is_file x q ≡ false)
+  steps : Steps a.history m.history moves
+  later : a.faults ≤ m.faults
+  gone : folder ≡ false → Rose a.faults m.faults ⊎ AtSome (now a.history) moves (λ x. is_file x q ≡ false)
 
-tried_one : (me : List ℕ) (folder : Bool) (q : PathView) (a m : History) (f n : ℕ) → TriedName folder me q a m f n → TriedOne folder q a m f n
-tried_one me true q a m f n t = record { moves = []; steps = steps_none a m t.0; later = omega (arith, t.1); gone = λ e. absurd (true≢false e) }
-tried_one me false q a m f n t = record {
-  moves = t.1.call.others ++ own_event me t.1.call.own;
+tried_one : (folder : Bool) (q : PathView) (a m : FolderPoint) → TriedName folder q a m → TriedOne folder q a m
+tried_one true q a m t = record { moves = []; steps = steps_none a.history m.history (ap (λ p. p.history) t); later = omega (arith, ap (λ p. p.faults) t); gone = λ e. absurd (true≢false e) }
+tried_one false q a m t = record {
+  moves = t.1.call.others ++ own_event a.token t.1.call.own;
   steps = record { start = t.1.call.start; trace = t.1.call.trace };
   later = t.1.later;
   gone = λ e. go t.0 t.1.call.own t.1.call.answer;
 }
   where
-    go : (done : Bool) (own : Option Move) → TriesFile q done f n (run (now a) t.1.call.others) own → Rose f n ⊎ AtSome (now a) (t.1.call.others ++ own_event me own) (λ x. is_file x q ≡ false)
-    go true own h = inr (at_behind (now a) t.1.call.others (own_event me own) (λ x. is_file x q ≡ false)
-        (subst (λ o. AtSome (run (now a) t.1.call.others) (own_event me o) (λ x. is_file x q ≡ false)) (sym h.1) ((me, Remove q) ∷ [], [], refl, gone_after (run (now a) t.1.call.others) me q)))
-    go false own (inl h) = inr (t.1.call.others, own_event me own, refl, h.0)
+    go : (done : Bool) (own : Option Move) → TriesFile q done a m (run (now a.history) t.1.call.others) own → Rose a.faults m.faults ⊎ AtSome (now a.history) (t.1.call.others ++ own_event a.token own) (λ x. is_file x q ≡ false)
+    go true own h = inr (at_behind (now a.history) t.1.call.others (own_event a.token own) (λ x. is_file x q ≡ false)
+        (subst (λ o. AtSome (run (now a.history) t.1.call.others) (own_event a.token o) (λ x. is_file x q ≡ false)) (sym h.1) ((a.token, Remove q) ∷ [], [], refl, gone_after (run (now a.history) t.1.call.others) a.token q)))
+    go false own (inl h) = inr (t.1.call.others, own_event a.token own, refl, h.0)
     go false own (inr h) = inl h.0
 
 -- one of the names
@@ -116,35 +117,35 @@ among (x ∷ xs) n zero lt e = inl e
 among (x ∷ xs) n (suc k) lt e = inr (among xs n k (omega (arith, lt)) e)
 
 -- names that were tried: each one's file was away at some state, or the count rose
-record TriedMany (p : PathView) (names : List Name) (a b : History) (f g : ℕ) : Type 0 where
+record TriedMany (p : PathView) (names : List Name) (a b : FolderPoint) : Type 0 where
   moves : Trace
-  steps : Steps a b moves
-  later : f ≤ g
-  gone : (n : Name) → Among n names → n.folder ≡ false → Rose f g ⊎ AtSome (now a) moves (λ x. is_file x (p ++ n.part ∷ []) ≡ false)
+  steps : Steps a.history b.history moves
+  later : a.faults ≤ b.faults
+  gone : (n : Name) → Among n names → n.folder ≡ false → Rose a.faults b.faults ⊎ AtSome (now a.history) moves (λ x. is_file x (p ++ n.part ∷ []) ≡ false)
 
-tried_many : (me : List ℕ) (p : PathView) (names : List Name) (a b : History) (f g : ℕ) → TriedNames me p names a b f g → TriedMany p names a b f g
+tried_many : (p : PathView) (names : List Name) (a b : FolderPoint) → TriedNames p names a b → TriedMany p names a b
 unfolding Among
-tried_many me p [] a b f g t = record { moves = []; steps = steps_none a b t.0; later = omega (arith, t.1); gone = λ n m e. absurd m }
-tried_many me p (x ∷ xs) a b f g t =
-    let one = tried_one me x.folder (p ++ x.part ∷ []) a t.0 f t.1 t.2 in
-    let rest = tried_many me p xs t.0 b t.1 g t.3 in record {
+tried_many p [] a b t = record { moves = []; steps = steps_none a.history b.history (ap (λ p. p.history) t); later = omega (arith, ap (λ p. p.faults) t); gone = λ n m e. absurd m }
+tried_many p (x ∷ xs) a b t =
+    let one = tried_one x.folder (p ++ x.part ∷ []) a t.0 t.1 in
+    let rest = tried_many p xs t.0 b t.2 in record {
       moves = one.moves ++ rest.moves;
-      steps = steps_trans a t.0 b one.moves rest.moves one.steps rest.steps;
+      steps = steps_trans a.history t.0.history b.history one.moves rest.moves one.steps rest.steps;
       later = omega (arith, one.later, rest.later);
       gone = λ n m e. pick one rest n m e;
     }
   where
-    pick : (one : TriedOne x.folder (p ++ x.part ∷ []) a t.0 f t.1) (rest : TriedMany p xs t.0 b t.1 g) (n : Name) → (x ≡ n) ⊎ Among n xs → n.folder ≡ false → Rose f g ⊎ AtSome (now a) (one.moves ++ rest.moves) (λ y. is_file y (p ++ n.part ∷ []) ≡ false)
-    pick one rest n (inl same) e = subst (λ k. Rose f g ⊎ AtSome (now a) (one.moves ++ rest.moves) (λ y. is_file y (p ++ k.part ∷ []) ≡ false)) same (first (one.gone (ap (λ k. k.folder) same ∙ e)))
+    pick : (one : TriedOne x.folder (p ++ x.part ∷ []) a t.0) (rest : TriedMany p xs t.0 b) (n : Name) → (x ≡ n) ⊎ Among n xs → n.folder ≡ false → Rose a.faults b.faults ⊎ AtSome (now a.history) (one.moves ++ rest.moves) (λ y. is_file y (p ++ n.part ∷ []) ≡ false)
+    pick one rest n (inl same) e = subst (λ k. Rose a.faults b.faults ⊎ AtSome (now a.history) (one.moves ++ rest.moves) (λ y. is_file y (p ++ k.part ∷ []) ≡ false)) same (first (one.gone (ap (λ k. k.folder) same ∙ e)))
       where
-        first : Rose f t.1 ⊎ AtSome (now a) one.moves (λ y. is_file y (p ++ x.part ∷ []) ≡ false) → Rose f g ⊎ AtSome (now a) (one.moves ++ rest.moves) (λ y. is_file y (p ++ x.part ∷ []) ≡ false)
-        first (inl r) = inl (rose_in f f t.1 g (omega arith) rest.later r)
-        first (inr h) = inr (at_later (now a) one.moves rest.moves (λ y. is_file y (p ++ x.part ∷ []) ≡ false) h)
+        first : Rose a.faults t.0.faults ⊎ AtSome (now a.history) one.moves (λ y. is_file y (p ++ x.part ∷ []) ≡ false) → Rose a.faults b.faults ⊎ AtSome (now a.history) (one.moves ++ rest.moves) (λ y. is_file y (p ++ x.part ∷ []) ≡ false)
+        first (inl r) = inl (rose_in a.faults a.faults t.0.faults b.faults (omega arith) rest.later r)
+        first (inr h) = inr (at_later (now a.history) one.moves rest.moves (λ y. is_file y (p ++ x.part ∷ []) ≡ false) h)
     pick one rest n (inr m) e = next (rest.gone n m e)
       where
-        next : Rose t.1 g ⊎ AtSome (now t.0) rest.moves (λ y. is_file y (p ++ n.part ∷ []) ≡ false) → Rose f g ⊎ AtSome (now a) (one.moves ++ rest.moves) (λ y. is_file y (p ++ n.part ∷ []) ≡ false)
-        next (inl r) = inl (rose_in f t.1 g g one.later (omega arith) r)
-        next (inr h) = inr (at_behind (now a) one.moves rest.moves (λ y. is_file y (p ++ n.part ∷ []) ≡ false) (subst (λ s. AtSome s rest.moves (λ y. is_file y (p ++ n.part ∷ []) ≡ false)) (now-on a t.0 one.moves one.steps.start one.steps.trace) h))
+        next : Rose t.0.faults b.faults ⊎ AtSome (now t.0.history) rest.moves (λ y. is_file y (p ++ n.part ∷ []) ≡ false) → Rose a.faults b.faults ⊎ AtSome (now a.history) (one.moves ++ rest.moves) (λ y. is_file y (p ++ n.part ∷ []) ≡ false)
+        next (inl r) = inl (rose_in a.faults t.0.faults b.faults b.faults one.later (omega arith) r)
+        next (inr h) = inr (at_behind (now a.history) one.moves rest.moves (λ y. is_file y (p ++ n.part ∷ []) ≡ false) (subst (λ s. AtSome s rest.moves (λ y. is_file y (p ++ n.part ∷ []) ≡ false)) (now-on a.history t.0.history one.moves one.steps.start one.steps.trace) h))
 
 -- what stands there as a file
 file_stands : (o : Option Place) → option_map_or is_file_place o false ≡ true → (place : Place) × (o ≡ Some place) × (is_folder_place place ≡ false)
@@ -153,49 +154,52 @@ file_stands (Some Folder) e = absurd (true≢false (sym e))
 file_stands (Some (File n)) e = (File n, refl, refl)
 
 -- a folder that was listed and couldn't be taken away
-tried_cause : (me : List ℕ) (p : PathView) (a b : History) (f g : ℕ) → TriedFolder me p false a b f g → HasCause p a b f g
-tried_cause me p a b f g t = go t.call.own t.call.answer whole
+tried_cause : (p : PathView) (a b : FolderPoint) → TriedFolder p false a b → HasCause p a b
+tried_cause p a b t = go t.last.call.own t.last.call.answer whole
   where
-    many : TriedMany p t.names t.listed t.emptied t.at_list t.at_names
-    many = tried_many me p t.names t.listed t.emptied t.at_list t.at_names t.tries
+    begun : a.faults ≤ t.listed.faults
+    begun = omega (arith, t.list.steady)
 
-    whole : since a b ≡ (t.list.waits.others ++ (many.moves ++ t.call.others)) ++ own_event me t.call.own
-    whole = since-is a b (t.list.waits.others ++ (many.moves ++ (t.call.others ++ own_event me t.call.own)))
-        (t.call.trace ∙ ap (λ l. l ++ (t.call.others ++ own_event me t.call.own)) (many.steps.trace ∙ ap (λ l. l ++ many.moves) t.list.waits.trace ∙ append_assoc a.trace t.list.waits.others many.moves)
-        ∙ append_assoc a.trace (t.list.waits.others ++ many.moves) (t.call.others ++ own_event me t.call.own) ∙ ap (λ l. a.trace ++ l) (append_assoc t.list.waits.others many.moves (t.call.others ++ own_event me t.call.own)))
-        ∙ ap (λ l. t.list.waits.others ++ l) (sym (append_assoc many.moves t.call.others (own_event me t.call.own))) ∙ sym (append_assoc t.list.waits.others (many.moves ++ t.call.others) (own_event me t.call.own))
+    many : TriedMany p t.names t.listed t.emptied
+    many = tried_many p t.names t.listed t.emptied t.tries
 
-    at_list : now t.listed ≡ run (now a) t.list.waits.others
-    at_list = now-on a t.listed t.list.waits.others t.list.waits.start t.list.waits.trace
+    whole : since a.history b.history ≡ (t.list.waits.others ++ (many.moves ++ t.last.call.others)) ++ own_event t.emptied.token t.last.call.own
+    whole = since-is a.history b.history (t.list.waits.others ++ (many.moves ++ (t.last.call.others ++ own_event t.emptied.token t.last.call.own)))
+        (t.last.call.trace ∙ ap (λ l. l ++ (t.last.call.others ++ own_event t.emptied.token t.last.call.own)) (many.steps.trace ∙ ap (λ l. l ++ many.moves) t.list.waits.trace ∙ append_assoc a.history.trace t.list.waits.others many.moves)
+        ∙ append_assoc a.history.trace (t.list.waits.others ++ many.moves) (t.last.call.others ++ own_event t.emptied.token t.last.call.own) ∙ ap (λ l. a.history.trace ++ l) (append_assoc t.list.waits.others many.moves (t.last.call.others ++ own_event t.emptied.token t.last.call.own)))
+        ∙ ap (λ l. t.list.waits.others ++ l) (sym (append_assoc many.moves t.last.call.others (own_event t.emptied.token t.last.call.own))) ∙ sym (append_assoc t.list.waits.others (many.moves ++ t.last.call.others) (own_event t.emptied.token t.last.call.own))
 
-    at_empty : now t.emptied ≡ run (now t.listed) many.moves
-    at_empty = now-on t.listed t.emptied many.moves many.steps.start many.steps.trace
+    at_list : now t.listed.history ≡ run (now a.history) t.list.waits.others
+    at_list = now-on a.history t.listed.history t.list.waits.others t.list.waits.start t.list.waits.trace
 
-    at_lead : run (now t.emptied) t.call.others ≡ run (now a) (t.list.waits.others ++ (many.moves ++ t.call.others))
-    at_lead = ap (λ s. run s t.call.others) (at_empty ∙ ap (λ s. run s many.moves) at_list) ∙ sym (run-append (now a) t.list.waits.others (many.moves ++ t.call.others) ∙ run-append (run (now a) t.list.waits.others) many.moves t.call.others)
+    at_empty : now t.emptied.history ≡ run (now t.listed.history) many.moves
+    at_empty = now-on t.listed.history t.emptied.history many.moves many.steps.start many.steps.trace
 
-    away : (Rose f g → ⊥) → WentAway (now a) (t.list.waits.others ++ (many.moves ++ t.call.others)) p
-    away still part named here = pick (here_or_away (now a) t.list.waits.others (p ++ part ∷ []))
+    at_lead : run (now t.emptied.history) t.last.call.others ≡ run (now a.history) (t.list.waits.others ++ (many.moves ++ t.last.call.others))
+    at_lead = ap (λ s. run s t.last.call.others) (at_empty ∙ ap (λ s. run s many.moves) at_list) ∙ sym (run-append (now a.history) t.list.waits.others (many.moves ++ t.last.call.others) ∙ run-append (run (now a.history) t.list.waits.others) many.moves t.last.call.others)
+
+    away : (Rose a.faults b.faults → ⊥) → WentAway (now a.history) (t.list.waits.others ++ (many.moves ++ t.last.call.others)) p
+    away still part named here = pick (here_or_away (now a.history) t.list.waits.others (p ++ part ∷ []))
       where
-        tried : Rose t.at_list t.at_names ⊎ AtSome (now t.listed) many.moves (λ x. is_file x (p ++ part ∷ []) ≡ false) → AtSome (now a) (t.list.waits.others ++ (many.moves ++ t.call.others)) (λ x. is_file x (p ++ part ∷ []) ≡ false)
-        tried (inl r) = absurd (still (rose_in f t.at_list t.at_names g t.list.later t.later r))
-        tried (inr h) = at_behind (now a) t.list.waits.others (many.moves ++ t.call.others) (λ x. is_file x (p ++ part ∷ []) ≡ false)
-            (at_later (run (now a) t.list.waits.others) many.moves t.call.others (λ x. is_file x (p ++ part ∷ []) ≡ false) (subst (λ s. AtSome s many.moves (λ x. is_file x (p ++ part ∷ []) ≡ false)) at_list h))
+        tried : Rose t.listed.faults t.emptied.faults ⊎ AtSome (now t.listed.history) many.moves (λ x. is_file x (p ++ part ∷ []) ≡ false) → AtSome (now a.history) (t.list.waits.others ++ (many.moves ++ t.last.call.others)) (λ x. is_file x (p ++ part ∷ []) ≡ false)
+        tried (inl r) = absurd (still (rose_in a.faults t.listed.faults t.emptied.faults b.faults begun t.last.later r))
+        tried (inr h) = at_behind (now a.history) t.list.waits.others (many.moves ++ t.last.call.others) (λ x. is_file x (p ++ part ∷ []) ≡ false)
+            (at_later (run (now a.history) t.list.waits.others) many.moves t.last.call.others (λ x. is_file x (p ++ part ∷ []) ≡ false) (subst (λ s. AtSome s many.moves (λ x. is_file x (p ++ part ∷ []) ≡ false)) at_list h))
 
-        pick : AtSome (now a) t.list.waits.others (λ x. is_file x (p ++ part ∷ []) ≡ false) ⊎ AtEach (now a) t.list.waits.others (λ x. is_file x (p ++ part ∷ []) ≡ true) → AtSome (now a) (t.list.waits.others ++ (many.moves ++ t.call.others)) (λ x. is_file x (p ++ part ∷ []) ≡ false)
-        pick (inl h) = at_later (now a) t.list.waits.others (many.moves ++ t.call.others) (λ x. is_file x (p ++ part ∷ []) ≡ false) h
+        pick : AtSome (now a.history) t.list.waits.others (λ x. is_file x (p ++ part ∷ []) ≡ false) ⊎ AtEach (now a.history) t.list.waits.others (λ x. is_file x (p ++ part ∷ []) ≡ true) → AtSome (now a.history) (t.list.waits.others ++ (many.moves ++ t.last.call.others)) (λ x. is_file x (p ++ part ∷ []) ≡ false)
+        pick (inl h) = at_later (now a.history) t.list.waits.others (many.moves ++ t.last.call.others) (λ x. is_file x (p ++ part ∷ []) ≡ false) h
         pick (inr each) =
             let found = t.list.lists.every (record { part = part; folder = false }) (λ before later split.
-            let s = file_stands (place_at (run (now a) before) (p ++ part ∷ [])) (each before later (sym (since-is a t.listed t.list.waits.others t.list.waits.trace) ∙ split)) in
+            let s = file_stands (place_at (run (now a.history) before) (p ++ part ∷ [])) (each before later (sym (since-is a.history t.listed.history t.list.waits.others t.list.waits.trace) ∙ split)) in
             record { place = s.0; place_is = s.1; kind = s.2; named = named }) in
             tried (many.gone (record { part = part; folder = false }) (among t.names (record { part = part; folder = false }) found.0 found.1 found.2) refl)
 
-    decide : is_folder (run (now t.emptied) t.call.others) p ≡ true → IsKept (run (now t.emptied) t.call.others) p → since a b ≡ (t.list.waits.others ++ (many.moves ++ t.call.others)) ++ own_event me t.call.own → HasCause p a b f g
-    decide there kept split = elim (leb_tells (min (f + 1) (2 ^ 64 - 1)) g) [
+    decide : is_folder (run (now t.emptied.history) t.last.call.others) p ≡ true → IsKept (run (now t.emptied.history) t.last.call.others) p → since a.history b.history ≡ (t.list.waits.others ++ (many.moves ++ t.last.call.others)) ++ own_event t.emptied.token t.last.call.own → HasCause p a b
+    decide there kept split = elim (leb_tells (min (a.faults + 1) (2 ^ 64 - 1)) b.faults) [
       | inl r ↦ inr (inr r.1)
       | inr r ↦ inr (inl record {
-        before = (t.list.waits.others ++ (many.moves ++ t.call.others));
-        later = own_event me t.call.own;
+        before = (t.list.waits.others ++ (many.moves ++ t.last.call.others));
+        later = own_event t.emptied.token t.last.call.own;
         split = split;
         away = away (λ rose. absurd (omega (arith, r.1, rose)));
         there = subst (λ s. is_folder s p ≡ true) at_lead there;
@@ -203,22 +207,22 @@ tried_cause me p a b f g t = go t.call.own t.call.answer whole
       })
     ]
 
-    go : (own : Option Move) → TriesFolder p false t.at_names g (run (now t.emptied) t.call.others) own → since a b ≡ (t.list.waits.others ++ (many.moves ++ t.call.others)) ++ own_event me t.call.own → HasCause p a b f g
-    go own (inl h) split = inl ((t.list.waits.others ++ (many.moves ++ t.call.others)), own_event me t.call.own, split, subst (λ s. is_folder s p ≡ false) at_lead h.0)
+    go : (own : Option Move) → TriesFolder p false t.emptied b (run (now t.emptied.history) t.last.call.others) own → since a.history b.history ≡ (t.list.waits.others ++ (many.moves ++ t.last.call.others)) ++ own_event t.emptied.token t.last.call.own → HasCause p a b
+    go own (inl h) split = inl ((t.list.waits.others ++ (many.moves ++ t.last.call.others)), own_event t.emptied.token t.last.call.own, split, subst (λ s. is_folder s p ≡ false) at_lead h.0)
     go own (inr (inl h)) split = decide h.0 h.1 split
-    go own (inr (inr h)) split = inr (inr (rose_in f t.at_names g g le (omega arith) h.0))
+    go own (inr (inr h)) split = inr (inr (rose_in a.faults t.emptied.faults b.faults b.faults le (omega arith) h.0))
       where
-        le : f ≤ t.at_names
-        le = omega (arith, t.list.later, many.later)
+        le : a.faults ≤ t.emptied.faults
+        le = omega (arith, begun, many.later)
 
 -- a folder that couldn't be removed
-pub folder_cause : (me : List ℕ) (p : PathView) (a b : History) (f g : ℕ) → RemovesFolder me p false a b f g → HasCause p a b f g
-folder_cause me p a b f g (inl t) = elim t.why [
-  | inl h ↦ inl h
+pub folder_cause : (p : PathView) (a b : FolderPoint) → RemovesFolder p false a b → HasCause p a b
+folder_cause p a b (inl t) = elim t.why [
+  | inl h ↦ inl h.0
   | inr r ↦ inr (inr r)
 ]
-folder_cause me p a b f g (inr t) = tried_cause me p a b f g t
+folder_cause p a b (inr t) = tried_cause p a b t
 
 -- trying names never lowers the count of faults
-pub names_later : (me : List ℕ) (p : PathView) (names : List Name) (a b : History) (f g : ℕ) → TriedNames me p names a b f g → f ≤ g
-names_later me p names a b f g t = (tried_many me p names a b f g t).later
+pub names_later : (p : PathView) (names : List Name) (a b : FolderPoint) → TriedNames p names a b → a.faults ≤ b.faults
+names_later p names a b t = (tried_many p names a b t).later

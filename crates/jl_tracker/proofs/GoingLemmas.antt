@@ -1,6 +1,7 @@
 -- The tracker goes on, line by line.
 use Rattle.std.proofs.Common.{◌≡◌, ℕ, suc, ◌+◌, ◌<◌, ◌≤◌, ◌⊎◌, inl, inr, List, [], ◌∷◌, ◌++◌, true, false, ◌||◌, cond, Option, Some, None, length, nat_lt, true≢false, sym, ◌∙◌, ap, subst, refl, arith, length-append}
 use Rattle.std.proofs.lemmas.List.{append-nil, append_assoc}
+use Rattle.jl_text.specs.declared.limits.TheConstants.{MOST_LINE_BYTES}
 use Rattle.jl_lines.specs.Lines.{is_newline, has_newline, first_line, behind_line, body_of, put_before, lines_of}
 use Rattle.jl_lines.specs.Steps.{IsWhole}
 use Rattle.jl_lines.proofs.LineLemmas.{behind_line_all}
@@ -91,13 +92,13 @@ effects_push n v (x ∷ xs) r =
     ap (λ l. line_effects n x v ++ l) (effects_push (n + 1) (after_read x v) xs r ∙ ap (λ k. effects_from (n + 1) (after_read x v) xs ++ line_effects k r (counts_after (after_read x v) xs)) e)
     ∙ sym (append_assoc (line_effects n x v) (effects_from (n + 1) (after_read x v) xs) (line_effects (n + suc (length xs)) r (counts_after (after_read x v) xs)))
 
--- a line of at most 512 bytes that was read
-pub line_reading : (bs body : List ℕ) (r : Option LineView) → body ≡ body_of bs → nat_lt 512 (length (first_line bs)) ≡ false → IsReading body r → IsLineReading (first_line bs) r
+-- a line that is not too long and was read
+pub line_reading : (bs body : List ℕ) (r : Option LineView) → body ≡ body_of bs → nat_lt MOST_LINE_BYTES (length (first_line bs)) ≡ false → IsReading body r → IsLineReading (first_line bs) r
 line_reading bs body (Some said) is short h = (within (length (first_line bs)) short, subst (λ l. IsTrackerLine l said) (is ∙ sym (body_first bs)) h)
   where
-    within : (n : ℕ) → nat_lt 512 n ≡ false → n ≤ 512
-    within n e = elim (leb_tells n 512) [
+    within : (n : ℕ) → nat_lt MOST_LINE_BYTES n ≡ false → n ≤ MOST_LINE_BYTES
+    within n e = elim (leb_tells n MOST_LINE_BYTES) [
       | inl p ↦ p.1
-      | inr p ↦ absurd (true≢false (sym ((Decides-ltb 512 n).1 p.1) ∙ e))
+      | inr p ↦ absurd (true≢false (sym ((Decides-ltb MOST_LINE_BYTES n).1 p.1) ∙ e))
     ]
 line_reading bs body None is short h = inr (λ said k. h said (subst (λ l. IsTrackerLine l said) (body_first bs ∙ sym is) k))

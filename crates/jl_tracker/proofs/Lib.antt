@@ -1,5 +1,6 @@
 pub mod PartLemmas
 pub mod SpelledLemmas
+pub mod StageLemmas
 pub mod SaidLemmas
 pub mod TableLemmas
 pub mod RemovalLemmas
@@ -9,3 +10,4 @@ pub mod HeldLemmas
 pub mod TrackLemmas
 pub mod CauseLemmas
 pub mod FailureLemmas
+pub mod MoveLemmas

@@ -2,7 +2,8 @@
 use Rattle.std.proofs.Common.{◌≡◌, ℕ, inl, inr, List, [], ◌∷◌, ◌++◌, Bool, true, false, Some, None, true≢false, sym, ◌∙◌, ap, subst, refl, arith}
 use Rattle.std.proofs.lemmas.List.{append-nil, append_assoc}
 use Rattle.std.specs.Bool.{MatchBool}
-use Rattle.jl_folder.specs.State.{History}
+use Rattle.jl_folder.specs.Views.{FolderView}
+use Rattle.jl_streams.specs.Views.{SinkView}
 use Rattle.jl_tracker.specs.declared.line.Kind.{Kind}
 use Rattle.jl_tracker.specs.declared.line.Kind.TheVariants as kind
 use Rattle.jl_tracker.specs.declared.table.Step.{Step}
@@ -12,7 +13,8 @@ use Rattle.jl_tracker.specs.Counting.{CountsView, Applies, after_line, answer_of
 use Rattle.jl_tracker.specs.Removing.{Removal}
 use Rattle.jl_tracker.specs.Tries.{IsRemovable}
 use Rattle.jl_tracker.specs.Effects.{Effect, removes, removal_text, text_of, effects_of, line_effects}
-use Rattle.jl_tracker.specs.Plays.{Stage, stage, Wrote, EffectMoves, EffectCut, Plays, CutFirst, Stops}
+use Rattle.jl_tracker.specs.Stages.{Stage, StageKeeps, Point, stage, point, folder_point, sink_point}
+use Rattle.jl_tracker.specs.Plays.{Wrote, EffectMoves, EffectCut, Plays, PlaysAt, CutFirst, Stops, StopsAt, PlaysOrStops}
 use Rattle.jl_tracker.specs.Turns.{IsSaidRemovable, LinePlays, LineStops}
 use Rattle.jl_tracker.proofs.SpelledLemmas.{path_text-read}
 
@@ -22,62 +24,62 @@ no_text kind.File name h = refl
 no_text kind.Folder name h = refl
 no_text kind.Semlock name h = absurd (h refl)
 
-pub gone_plays : (FT ET : Type 0) (me : List ℕ) (k : Kind) (name : List ℕ) (a b : History) (f g : ℕ) (w : List ℕ) (e : ℕ) → (FT → Removal me k name true a b f g) → (k ≡ kind.Semlock → ⊥) → Plays FT ET me (removes k name ∷ []) (stage a f w e) (stage b g w e)
-gone_plays FT ET me k name a b f g w e moves other = (
+pub gone_plays : (k : Kind) (name : List ℕ) (old new : FolderView) (err : SinkView) → (old.told → Removal k name true (folder_point old) (folder_point new)) → (k ≡ kind.Semlock → ⊥) → Plays (removes k name ∷ []) (stage old err) (stage new err)
+gone_plays k name old new err moves other = (
   true,
-  stage b g w e,
-  record { moves = moves; text = λ t. (omega arith, inl (sym (append-nil w) ∙ ap (λ x. w ++ x) (sym (no_text k name other)))) },
+  point (stage new err),
+  record { moves = moves; text = λ t. (omega arith, inl (sym (append-nil err.written) ∙ ap (λ x. err.written ++ x) (sym (no_text k name other)), refl)) },
   refl,
 )
 
 -- one effect, of which the text was written or not for want of memory
-pub kept_ends : (FT ET : Type 0) (me : List ℕ) (eff : Effect) {S : Type 0} (written : S → List ℕ) (errors : S → ℕ) (s s' : S) (a b : History) (f g : ℕ) (r : Bool) → MatchBool r (ET → Wrote (text_of eff false) (written s) (written s') (errors s) (errors s')) (s' ≡ s)
-    → (FT → EffectMoves me eff false a b f g) → (FT → EffectCut me eff a b f g) → MatchBool r (Plays FT ET me (eff ∷ []) (stage a f (written s) (errors s)) (stage b g (written s') (errors s'))) (Stops FT ET me (eff ∷ []) (stage a f (written s) (errors s)) (stage b g (written s') (errors s')))
-kept_ends FT ET me eff written errors s s' a b f g true text moves cut = (false, stage b g (written s') (errors s'), record { moves = moves; text = text }, refl)
-kept_ends FT ET me eff written errors s s' a b f g false same moves cut = record {
+pub kept_ends : (e : Effect) {S : Type 0} (view : S → SinkView) (err err' : S) (old new : FolderView) (r : Bool) → MatchBool r ((view err).told → Wrote (text_of e false) (sink_point (view err)) (sink_point (view err'))) (err' ≡ err)
+    → (old.told → EffectMoves e false (folder_point old) (folder_point new)) → (old.told → EffectCut e (folder_point old) (folder_point new)) → PlaysOrStops r (e ∷ []) (stage old (view err)) (stage new (view err'))
+kept_ends e view err err' old new true text moves cut = (false, point (stage new (view err')), record { moves = moves; text = text }, refl)
+kept_ends e view err err' old new false same moves cut = record {
   first = [];
-  rest = eff ∷ [];
+  rest = e ∷ [];
   split = refl;
-  at = stage a f (written s) (errors s);
+  mid = point (stage old (view err));
   plays = refl;
-  cut = inr record { moves = cut; written_is = ap written same; errors_is = ap errors same };
+  cut = inr record { moves = cut; err_is = ap (λ s. sink_point (view s)) same };
 }
 
-pub cut_stops : (FT ET : Type 0) (me : List ℕ) (eff : Effect) (a b : History) (f g : ℕ) (w : List ℕ) (e : ℕ) → (FT → EffectCut me eff a b f g) → Stops FT ET me (eff ∷ []) (stage a f w e) (stage b g w e)
-cut_stops FT ET me eff a b f g w e cut = record {
+pub cut_stops : (e : Effect) (old new : FolderView) (err : SinkView) → (old.told → EffectCut e (folder_point old) (folder_point new)) → Stops (e ∷ []) (stage old err) (stage new err)
+cut_stops e old new err cut = record {
   first = [];
-  rest = eff ∷ [];
+  rest = e ∷ [];
   split = refl;
-  at = stage a f w e;
+  mid = point (stage old err);
   plays = refl;
-  cut = inr record { moves = cut; written_is = refl; errors_is = refl };
+  cut = inr record { moves = cut; err_is = refl };
 }
 
 -- there is nothing to do
-pub stops_none : (FT ET : Type 0) (me : List ℕ) (a : Stage) → Stops FT ET me [] a a
-stops_none FT ET me a = record { first = []; rest = []; split = refl; at = a; plays = refl; cut = refl }
+pub stops_none : (a : Stage) → Stops [] a a
+stops_none a = record { first = []; rest = []; split = refl; mid = point a; plays = refl; cut = refl }
 
-pub none_ends : (FT ET : Type 0) (me : List ℕ) (a : Stage) (r : Bool) → MatchBool r (Plays FT ET me [] a a) (Stops FT ET me [] a a)
-none_ends FT ET me a true = refl
-none_ends FT ET me a false = stops_none FT ET me a
+pub none_ends : (a : Stage) (r : Bool) → PlaysOrStops r [] a a
+none_ends a true = refl
+none_ends a false = stops_none a
 
 -- the effects of a line that was counted
-pub good_ends : (FT ET : Type 0) (me : List ℕ) (said : LineView) (old new : CountsView) (s : Step) (r : Bool) (a b : Stage) → Applies said old new s → (s ≡ step.NoMemory → r ≡ false)
-    → MatchBool r (Plays FT ET me (effects_of said s) a b) (Stops FT ET me (effects_of said s) a b) → MatchBool r ((new ≡ after_line said old) × Plays FT ET me (effects_of said (answer_of said old)) a b) (Stops FT ET me (effects_of said (answer_of said old)) a b)
-good_ends FT ET me said old new s r a b h none ends = go s h none ends
+pub good_ends : (said : LineView) (old new : CountsView) (s : Step) (r : Bool) (a b : Stage) → Applies said old new s → (s ≡ step.NoMemory → r ≡ false)
+    → PlaysOrStops r (effects_of said s) a b → MatchBool r ((new ≡ after_line said old) × Plays (effects_of said (answer_of said old)) a b) (Stops (effects_of said (answer_of said old)) a b)
+good_ends said old new s r a b h none ends = go s h none ends
   where
-    both : (s : Step) (r : Bool) → s ≡ answer_of said old → new ≡ after_line said old → MatchBool r (Plays FT ET me (effects_of said s) a b) (Stops FT ET me (effects_of said s) a b) → MatchBool r ((new ≡ after_line said old) × Plays FT ET me (effects_of said (answer_of said old)) a b) (Stops FT ET me (effects_of said (answer_of said old)) a b)
-    both s true is n p = (n, subst (λ x. Plays FT ET me (effects_of said x) a b) is p)
-    both s false is n p = subst (λ x. Stops FT ET me (effects_of said x) a b) is p
+    both : (s : Step) (r : Bool) → s ≡ answer_of said old → new ≡ after_line said old → PlaysOrStops r (effects_of said s) a b → MatchBool r ((new ≡ after_line said old) × Plays (effects_of said (answer_of said old)) a b) (Stops (effects_of said (answer_of said old)) a b)
+    both s true is n p = (n, subst (λ x. Plays (effects_of said x) a b) is p)
+    both s false is n p = subst (λ x. Stops (effects_of said x) a b) is p
 
-    new_only : (said : LineView) (r : Bool) → Applies said old new step.NoMemory → r ≡ false → MatchBool r (Plays FT ET me (effects_of said step.NoMemory) a b) (Stops FT ET me (effects_of said step.NoMemory) a b) → MatchBool r ((new ≡ after_line said old) × Plays FT ET me (effects_of said (answer_of said old)) a b) (Stops FT ET me (effects_of said (answer_of said old)) a b)
+    new_only : (said : LineView) (r : Bool) → Applies said old new step.NoMemory → r ≡ false → PlaysOrStops r (effects_of said step.NoMemory) a b → MatchBool r ((new ≡ after_line said old) × Plays (effects_of said (answer_of said old)) a b) (Stops (effects_of said (answer_of said old)) a b)
     new_only (registers k name) true h e p = absurd (true≢false e)
     new_only (registers k name) false h e p = p
     new_only (unregisters k name) r h e p = absurd h.0
     new_only (may_unlink k name) r h e p = absurd h.0
     new_only probes r h e p = absurd h.0
 
-    go : (s : Step) → Applies said old new s → (s ≡ step.NoMemory → r ≡ false) → MatchBool r (Plays FT ET me (effects_of said s) a b) (Stops FT ET me (effects_of said s) a b) → MatchBool r ((new ≡ after_line said old) × Plays FT ET me (effects_of said (answer_of said old)) a b) (Stops FT ET me (effects_of said (answer_of said old)) a b)
+    go : (s : Step) → Applies said old new s → (s ≡ step.NoMemory → r ≡ false) → PlaysOrStops r (effects_of said s) a b → MatchBool r ((new ≡ after_line said old) × Plays (effects_of said (answer_of said old)) a b) (Stops (effects_of said (answer_of said old)) a b)
     go (step.Counted n) h none p = both (step.Counted n) r h.0 h.1 p
     go step.Dropped h none p = both step.Dropped r h.0 h.1 p
     go step.Remove h none p = both step.Remove r h.0 h.1 p
@@ -86,16 +88,16 @@ good_ends FT ET me said old new s r a b h none ends = go s h none ends
     go step.NoMemory h none p = new_only said r h (none refl) p
 
 -- a line of the tracker
-pub line_ends : (FT ET : Type 0) (me : List ℕ) (number : ℕ) (bytes : List ℕ) (said : LineView) (old new : CountsView) (r : Bool) (a b : Stage) → IsTrackerLine bytes said → MatchBool r ((new ≡ after_line said old) × Plays FT ET me (effects_of said (answer_of said old)) a b) (Stops FT ET me (effects_of said (answer_of said old)) a b)
-    → MatchBool r (LinePlays FT ET me number bytes old new a b) (LineStops FT ET me number bytes old a b)
-line_ends FT ET me number bytes said old new true a b is p = record { read = Some said; reading = is; counts_is = p.0; plays = p.1 }
-line_ends FT ET me number bytes said old new false a b is p = record { read = Some said; reading = is; stops = p }
+pub line_ends : (number : ℕ) (bytes : List ℕ) (said : LineView) (old new : CountsView) (r : Bool) (a b : Stage) → IsTrackerLine bytes said → MatchBool r ((new ≡ after_line said old) × Plays (effects_of said (answer_of said old)) a b) (Stops (effects_of said (answer_of said old)) a b)
+    → MatchBool r (LinePlays number bytes old new a b) (LineStops number bytes old a b)
+line_ends number bytes said old new true a b is p = record { read = Some said; reading = is; counts_is = p.0; plays = p.1 }
+line_ends number bytes said old new false a b is p = record { read = Some said; reading = is; stops = p }
 
 -- a bad line
-pub bad_ends : (FT ET : Type 0) (me : List ℕ) (number : ℕ) (bytes : List ℕ) (old : CountsView) (r : Bool) (a b : Stage) → ((said : LineView) → ¬ (IsTrackerLine bytes said)) → MatchBool r (Plays FT ET me (line_effects number None old) a b) (Stops FT ET me (line_effects number None old) a b)
-    → MatchBool r (LinePlays FT ET me number bytes old old a b) (LineStops FT ET me number bytes old a b)
-bad_ends FT ET me number bytes old true a b bad p = record { read = None; reading = bad; counts_is = refl; plays = p }
-bad_ends FT ET me number bytes old false a b bad p = record { read = None; reading = bad; stops = p }
+pub bad_ends : (number : ℕ) (bytes : List ℕ) (old : CountsView) (r : Bool) (a b : Stage) → ((said : LineView) → ¬ (IsTrackerLine bytes said)) → PlaysOrStops r (line_effects number None old) a b
+    → MatchBool r (LinePlays number bytes old old a b) (LineStops number bytes old a b)
+bad_ends number bytes old true a b bad p = record { read = None; reading = bad; counts_is = refl; plays = p }
+bad_ends number bytes old false a b bad p = record { read = None; reading = bad; stops = p }
 
 -- the resource of a line has a path
 named_removable : (k : Kind) (name : List ℕ) → IsNameOf k name → IsRemovable k name
@@ -109,65 +111,69 @@ said_removable bytes (unregisters k name) h = subst (IsRemovable k) (sym h.says.
 said_removable bytes (may_unlink k name) h = subst (IsRemovable k) (sym h.says.2) (named_removable k h.name h.says.3)
 said_removable bytes probes h = tt
 
--- effects after effects
-pub plays_trans : (FT ET : Type 0) (me : List ℕ) (es fs : List Effect) (a m b : Stage) → Plays FT ET me es a m → Plays FT ET me fs m b → Plays FT ET me (es ++ fs) a b
-plays_trans FT ET me [] fs a m b p q = subst (λ x. Plays FT ET me fs x b) p q
-plays_trans FT ET me (e ∷ es) fs a m b p q = (p.0, p.1, p.2, plays_trans FT ET me es fs p.1 m b p.3 q)
+-- the effects come about where less is told
+pub plays_map : (s s' : Stage) (es : List Effect) (a b : Point) → StageKeeps s s' → PlaysAt s' es a b → PlaysAt s es a b
+plays_map s s' [] a b keeps p = p
+plays_map s s' (e ∷ es) a b keeps p = (p.0, p.1, record { moves = λ t. p.2.moves (keeps.folder.told t); text = λ t. p.2.text (keeps.err.told t) }, plays_map s s' es p.1 b keeps p.3)
 
-pub plays_stops : (FT ET : Type 0) (me : List ℕ) (es fs : List Effect) (a m b : Stage) → Plays FT ET me es a m → Stops FT ET me fs m b → Stops FT ET me (es ++ fs) a b
-plays_stops FT ET me es fs a m b p q = record {
-  first = es ++ q.first;
+cut_map : (s s' : Stage) (es : List Effect) (a b : Point) → StageKeeps s s' → CutFirst s' es a b → CutFirst s es a b
+cut_map s s' [] a b keeps c = c
+cut_map s s' (e ∷ es) a b keeps (inl c) = inl c
+cut_map s s' (e ∷ es) a b keeps (inr c) = inr record { moves = λ t. c.moves (keeps.folder.told t); err_is = c.err_is }
+
+pub stops_map : (s s' : Stage) (es : List Effect) (a b : Point) → StageKeeps s s' → StopsAt s' es a b → StopsAt s es a b
+stops_map s s' es a b keeps q = record {
+  first = q.first;
   rest = q.rest;
-  split = ap (λ l. es ++ l) q.split ∙ sym (append_assoc es q.first q.rest);
-  at = q.at;
-  plays = plays_trans FT ET me es q.first a m q.at p q.plays;
-  cut = q.cut;
+  split = q.split;
+  mid = q.mid;
+  plays = plays_map s s' q.first a q.mid keeps q.plays;
+  cut = cut_map s s' q.rest q.mid b keeps q.cut;
 }
 
+-- effects after effects
+plays_on : (s : Stage) (es fs : List Effect) (a m b : Point) → PlaysAt s es a m → PlaysAt s fs m b → PlaysAt s (es ++ fs) a b
+plays_on s [] fs a m b p q = subst (λ x. PlaysAt s fs x b) p q
+plays_on s (e ∷ es) fs a m b p q = (p.0, p.1, p.2, plays_on s es fs p.1 m b p.3 q)
+
+pub plays_trans : (es fs : List Effect) (a m b : Stage) → StageKeeps a m → Plays es a m → Plays fs m b → Plays (es ++ fs) a b
+plays_trans es fs a m b keeps p q = plays_on a es fs (point a) (point m) (point b) p (plays_map a m fs (point m) (point b) keeps q)
+
+pub plays_stops : (es fs : List Effect) (a m b : Stage) → StageKeeps a m → Plays es a m → Stops fs m b → Stops (es ++ fs) a b
+plays_stops es fs a m b keeps p stops =
+    let q = stops_map a m fs (point m) (point b) keeps stops in record {
+      first = es ++ q.first;
+      rest = q.rest;
+      split = ap (λ l. es ++ l) q.split ∙ sym (append_assoc es q.first q.rest);
+      mid = q.mid;
+      plays = plays_on a es q.first (point a) (point m) q.mid p q.plays;
+      cut = q.cut;
+    }
+
 -- more effects were to come
-pub stops_before : (FT ET : Type 0) (me : List ℕ) (es fs : List Effect) (a b : Stage) → Stops FT ET me es a b → Stops FT ET me (es ++ fs) a b
-stops_before FT ET me es fs a b q = record {
+pub stops_before : (es fs : List Effect) (a b : Stage) → Stops es a b → Stops (es ++ fs) a b
+stops_before es fs a b q = record {
   first = q.first;
   rest = q.rest ++ fs;
   split = ap (λ l. l ++ fs) q.split ∙ append_assoc q.first q.rest fs;
-  at = q.at;
+  mid = q.mid;
   plays = q.plays;
   cut = more q.rest q.cut;
 }
   where
-    more : (rest : List Effect) → CutFirst FT me rest q.at b → CutFirst FT me (rest ++ fs) q.at b
+    more : (rest : List Effect) → CutFirst a rest q.mid (point b) → CutFirst a (rest ++ fs) q.mid (point b)
     more [] c = first_of fs c
       where
-        first_of : (fs : List Effect) → b ≡ q.at → CutFirst FT me fs q.at b
+        first_of : (fs : List Effect) → point b ≡ q.mid → CutFirst a fs q.mid (point b)
         first_of [] c = c
         first_of (f ∷ fs) c = inl c
     more (e ∷ es) c = c
 
 -- all of the effects came about, and then there was no memory
-pub plays_stop : (FT ET : Type 0) (me : List ℕ) (es : List Effect) (a b : Stage) → Plays FT ET me es a b → Stops FT ET me es a b
-plays_stop FT ET me es a b p = record { first = es; rest = []; split = sym (append-nil es); at = b; plays = p; cut = refl }
-
--- what is claimed where less is told
-pub plays_map : (FT FT' ET ET' : Type 0) (me me' : List ℕ) (es : List Effect) (a b : Stage) → (FT → FT') → (ET → ET') → me' ≡ me → Plays FT' ET' me' es a b → Plays FT ET me es a b
-plays_map FT FT' ET ET' me me' [] a b f h same p = p
-plays_map FT FT' ET ET' me me' (e ∷ es) a b f h same p = (p.0, p.1, record { moves = λ t. subst (λ m. EffectMoves m e p.0 a.history p.1.history a.faults p.1.faults) same (p.2.moves (f t)); text = λ t. p.2.text (h t) }, plays_map FT FT' ET ET' me me' es p.1 b f h same p.3)
-
-cut_map : (FT FT' : Type 0) (me me' : List ℕ) (es : List Effect) (a b : Stage) → (FT → FT') → me' ≡ me → CutFirst FT' me' es a b → CutFirst FT me es a b
-cut_map FT FT' me me' [] a b f same c = c
-cut_map FT FT' me me' (e ∷ es) a b f same (inl c) = inl c
-cut_map FT FT' me me' (e ∷ es) a b f same (inr c) = inr record { moves = λ t. subst (λ m. EffectCut m e a.history b.history a.faults b.faults) same (c.moves (f t)); written_is = c.written_is; errors_is = c.errors_is }
-
-pub stops_map : (FT FT' ET ET' : Type 0) (me me' : List ℕ) (es : List Effect) (a b : Stage) → (FT → FT') → (ET → ET') → me' ≡ me → Stops FT' ET' me' es a b → Stops FT ET me es a b
-stops_map FT FT' ET ET' me me' es a b f h same s = record {
-  first = s.first;
-  rest = s.rest;
-  split = s.split;
-  at = s.at;
-  plays = plays_map FT FT' ET ET' me me' s.first a s.at f h same s.plays;
-  cut = cut_map FT FT' me me' s.rest s.at b f same s.cut;
-}
+pub plays_stop : (es : List Effect) (a b : Stage) → Plays es a b → Stops es a b
+plays_stop es a b p = record { first = es; rest = []; split = sym (append-nil es); mid = point b; plays = p; cut = refl }
 
 -- effects after effects, which end or stop
-pub ends_then : (FT FT' ET ET' : Type 0) (me me' : List ℕ) (es fs : List Effect) (a m b : Stage) (r : Bool) → (FT → FT') → (ET → ET') → me' ≡ me → Plays FT ET me es a m → MatchBool r (Plays FT' ET' me' fs m b) (Stops FT' ET' me' fs m b) → MatchBool r (Plays FT ET me (es ++ fs) a b) (Stops FT ET me (es ++ fs) a b)
-ends_then FT FT' ET ET' me me' es fs a m b true f h same p q = plays_trans FT ET me es fs a m b p (plays_map FT FT' ET ET' me me' fs m b f h same q)
-ends_then FT FT' ET ET' me me' es fs a m b false f h same p q = plays_stops FT ET me es fs a m b p (stops_map FT FT' ET ET' me me' fs m b f h same q)
+pub ends_then : (es fs : List Effect) (a m b : Stage) (r : Bool) → StageKeeps a m → Plays es a m → PlaysOrStops r fs m b → PlaysOrStops r (es ++ fs) a b
+ends_then es fs a m b true keeps p q = plays_trans es fs a m b keeps p q
+ends_then es fs a m b false keeps p q = plays_stops es fs a m b keeps p q

@@ -1,74 +1,73 @@
 -- The steps of a removal, one after the other.
-use Rattle.std.proofs.Common.{◌≡◌, ℕ, ◌≤◌, inl, inr, List, [], ◌∷◌, ◌++◌, Bool, true, false, sym, ap, subst, refl}
+use Rattle.std.proofs.Common.{◌≡◌, inl, inr, List, [], ◌∷◌, ◌++◌, Bool, true, false, Option, sym, subst, refl}
 use Rattle.std.proofs.lemmas.List.{append-nil}
 use Rattle.jl_text.specs.Paths.{PathView}
-use Rattle.jl_folder.specs.State.{History, now, since}
-use Rattle.jl_folder.specs.Calls.{Waits}
-use Rattle.jl_folder.specs.Listing.{ListsNames}
+use Rattle.jl_folder.specs.State.{State}
+use Rattle.jl_folder.specs.Views.{FolderView}
+use Rattle.jl_folder.specs.Calls.{Call, Waits}
 use Rattle.jl_folder.specs.declared.listing.Name.{Name}
-use Rattle.jl_folder.proofs.ReadingLemmas.{waits_none}
+use Rattle.jl_folder.specs.declared.moves.Move.{Move}
 use Rattle.jl_tracker.specs.declared.removing.Tried.{Tried}
 use Rattle.jl_tracker.specs.declared.removing.Tried.TheVariants as tried
+use Rattle.jl_tracker.specs.Stages.{FolderPoint, folder_point, view_at}
 use Rattle.jl_tracker.specs.Removing.{TriedName, TriedNames, TriedFolder, CutFolder, ListedFolder}
 use Rattle.jl_tracker.specs.Tries.{FolderTry, NameTry, CutNames, TriedAll, CutLast, ListedTry, RemovesTry}
 
+-- a call, whatever else is seen of the folder; what is found may be told in other words
+pub call_at : (old new : FolderView) (P Q : State → Option Move → Type 0) → ((s : State) (own : Option Move) → P s own → Q s own) → Call old new P → Call (view_at (folder_point old)) (view_at (folder_point new)) Q
+call_at old new P Q f c = record { others = c.others; own = c.own; foreign = c.foreign; start = c.start; trace = c.trace; lawful = c.lawful; answer = f _ _ c.answer }
+
+-- a wait, whatever else is seen of the folder
+pub waits_at : (old new : FolderView) → Waits old new → Waits (view_at (folder_point old)) (view_at (folder_point new))
+waits_at old new w = record { others = w.others; foreign = w.foreign; start = w.start; trace = w.trace; lawful = w.lawful }
+
 -- one more name was tried
-pub tried_names_push : (me : List ℕ) (p : PathView) (ns : List Name) (n : Name) (a m b : History) (f h g : ℕ) → TriedNames me p ns a m f h → TriedName n.folder me (p ++ n.part ∷ []) m b h g → TriedNames me p (ns ++ n ∷ []) a b f g
-tried_names_push me p [] n a m b f h g t one = (b, g, subst (λ x. TriedName n.folder me (p ++ n.part ∷ []) x b f g) t.0 (subst (λ x. TriedName n.folder me (p ++ n.part ∷ []) m b x g) t.1 one), (refl, refl))
-tried_names_push me p (x ∷ xs) n a m b f h g t one = (t.0, t.1, t.2, tried_names_push me p xs n t.0 m b t.1 h g t.3 one)
+pub tried_names_push : (p : PathView) (ns : List Name) (n : Name) (a m b : FolderPoint) → TriedNames p ns a m → TriedName n.folder (p ++ n.part ∷ []) m b → TriedNames p (ns ++ n ∷ []) a b
+tried_names_push p [] n a m b t one = (b, subst (λ x. TriedName n.folder (p ++ n.part ∷ []) x b) t one, refl)
+tried_names_push p (x ∷ xs) n a m b t one = (t.0, t.1, tried_names_push p xs n t.0 m b t.2 one)
 
 -- a name was not tried for want of memory
-pub cut_names : (me : List ℕ) (p : PathView) (names first more : List Name) (n : Name) (folder : Bool) (a m b : History) (f h g : ℕ) → names ≡ first ++ more → TriedNames me p first a m f h → NameTry folder me (p ++ n.part ∷ []) false m b h g → CutNames me p names a b f g
-cut_names me p names first more n folder a m b f h g split t (inl e) = record { first = first; more = more; split = split; tried = m; at_names = h; tries = t; last = inl e }
-cut_names me p names first more n folder a m b f h g split t (inr call) = record { first = first; more = more; split = split; tried = m; at_names = h; tries = t; last = inr (n.part, call) }
+pub cut_names : (p : PathView) (names first more : List Name) (n : Name) (folder : Bool) (a m b : FolderPoint) → names ≡ first ++ more → TriedNames p first a m → NameTry folder (p ++ n.part ∷ []) false m b → CutNames p names a b
+cut_names p names first more n folder a m b split t (inl e) = record { first = first; more = more; split = split; tried = m; tries = t; last = inl e }
+cut_names p names first more n folder a m b split t (inr move) = record { first = first; more = more; split = split; tried = m; tries = t; last = inr (n.part, move) }
 
 -- then the folder was tried
-pub listed_try : (me : List ℕ) (p : PathView) (names : List Name) (r : Tried) (a m b : History) (f h g : ℕ) → TriedNames me p names a m f h → FolderTry me p r m b h g → h ≤ g → ListedTry me p names r a b f g
-listed_try me p names tried.Gone a m b f h g t call le = record { emptied = m; at_names = h; tries = t; later = le; call = call }
-listed_try me p names tried.Kept a m b f h g t call le = record { emptied = m; at_names = h; tries = t; later = le; call = call }
-listed_try me p names tried.NoMemory a m b f h g t call le = inr record { emptied = m; at_names = h; tries = t; call = call }
+pub listed_try : (p : PathView) (names : List Name) (r : Tried) (a m b : FolderPoint) → TriedNames p names a m → FolderTry p r m b → ListedTry p names r a b
+listed_try p names tried.Gone a m b t last = record { emptied = m; tries = t; last = last }
+listed_try p names tried.Kept a m b t last = record { emptied = m; tries = t; last = last }
+listed_try p names tried.NoMemory a m b t last = inr record { emptied = m; tries = t; last = last }
 
 -- a folder that was listed
-tried_folder : (me : List ℕ) (p : PathView) (names : List Name) (done : Bool) (a m b : History) (f h g : ℕ) → ListedFolder me p names a m f h → TriedAll me p names done m b h g → TriedFolder me p done a b f g
-tried_folder me p names done a m b f h g l t = record { names = names; listed = m; emptied = t.emptied; at_list = h; at_names = t.at_names; list = l; tries = t.tries; later = t.later; call = t.call }
+tried_folder : (p : PathView) (names : List Name) (done : Bool) (a m b : FolderPoint) → ListedFolder p names a m → TriedAll p names done m b → TriedFolder p done a b
+tried_folder p names done a m b l t = record { names = names; listed = m; emptied = t.emptied; list = l; tries = t.tries; last = t.last }
 
-cut_folder : (me : List ℕ) (p : PathView) (names : List Name) (a m b : History) (f h g : ℕ) → ListedFolder me p names a m f h → CutNames me p names m b h g → CutFolder me p a b f g
-cut_folder me p names a m b f h g l c = record {
+cut_folder : (p : PathView) (names : List Name) (a m b : FolderPoint) → ListedFolder p names a m → CutNames p names m b → CutFolder p a b
+cut_folder p names a m b l c = record {
   names = c.first;
   more = c.more;
   listed = m;
   tried = c.tried;
-  at_list = h;
-  at_names = c.at_names;
-  list = subst (λ ns. ListedFolder me p ns a m f h) c.split l;
+  list = subst (λ ns. ListedFolder p ns a m) c.split l;
   tries = c.tries;
   last = elim c.last [
-    | inl e ↦ inl (waits_none me c.tried b (ap (λ x. x.start) e) (ap (λ x. x.trace) e))
-    | inr call ↦ inr (inl (call.0, record { call = call.1 }))
+    | inl e ↦ inl e
+    | inr move ↦ inr (inl move)
   ];
 }
 
-cut_last : (me : List ℕ) (p : PathView) (names : List Name) (a m b : History) (f h g : ℕ) → ListedFolder me p names a m f h → CutLast me p names m b h g → CutFolder me p a b f g
-cut_last me p names a m b f h g l c = record {
+cut_last : (p : PathView) (names : List Name) (a m b : FolderPoint) → ListedFolder p names a m → CutLast p names m b → CutFolder p a b
+cut_last p names a m b l c = record {
   names = names;
   more = [];
   listed = m;
   tried = c.emptied;
-  at_list = h;
-  at_names = c.at_names;
-  list = subst (λ ns. ListedFolder me p ns a m f h) (sym (append-nil names)) l;
+  list = subst (λ ns. ListedFolder p ns a m) (sym (append-nil names)) l;
   tries = c.tries;
-  last = inr (inr record { call = c.call });
+  last = inr (inr c.last);
 }
 
-pub removes_try : (me : List ℕ) (p : PathView) (names : List Name) (r : Tried) (a m b : History) (f h g : ℕ) → f ≤ h → Waits me a m → ListsNames p names (now a) (since a m) → ListedTry me p names r m b h g → RemovesTry me p r a b f g
-removes_try me p names r a m b f h g le waits lists = go r
-  where
-    l : ListedFolder me p names a m f h
-    l = record { later = le; waits = waits; lists = lists }
-
-    go : (r : Tried) → ListedTry me p names r m b h g → RemovesTry me p r a b f g
-    go tried.Gone t = tried_folder me p names true a m b f h g l t
-    go tried.Kept t = inr (tried_folder me p names false a m b f h g l t)
-    go tried.NoMemory (inl c) = inr (inl (cut_folder me p names a m b f h g l c))
-    go tried.NoMemory (inr c) = inr (inl (cut_last me p names a m b f h g l c))
+pub removes_try : (p : PathView) (names : List Name) (r : Tried) (a m b : FolderPoint) → ListedFolder p names a m → ListedTry p names r m b → RemovesTry p r a b
+removes_try p names tried.Gone a m b l t = tried_folder p names true a m b l t
+removes_try p names tried.Kept a m b l t = inr (tried_folder p names false a m b l t)
+removes_try p names tried.NoMemory a m b l (inl c) = inr (cut_folder p names a m b l c)
+removes_try p names tried.NoMemory a m b l (inr c) = inr (cut_last p names a m b l c)

@@ -6,6 +6,7 @@ use Rattle.std.proofs.lemmas.Grind.{common_steps}
 use Rattle.std.proofs.lemmas.Slice.Eq.{bytes_eq-Decides}
 use Rattle.std.specs.List.{list_all, onto_first}
 use Rattle.std.specs.Str.{bytes_eq}
+use Rattle.jl_text.specs.declared.limits.TheConstants.{MOST_PATH_BYTES}
 use Rattle.jl_text.specs.Paths.{PathView, IsPath, is_path, is_part, pieces, path_of, is_bad, behind_slashes, text_of}
 use Rattle.jl_text.proofs.Spelled.{part_facts, pieces_joined, text_of-spelled, path_of-text_of, is_bad-text_of}
 use Rattle.jl_text.proofs.Pieces.{first_is_part}
@@ -84,15 +85,15 @@ spelled_path (b ∷ bs) parts = elim (nat_eq b 47) as (λ v. nat_eq b 47 ≡ v �
 -- what is tested of a text makes it the text of a path
 pub is_spelled-sound : (t : List ℕ) → is_spelled t ≡ true → IsPathText t
 is_spelled-sound t h =
-    let parts = and_parts (not (nat_lt 4096 (length t))) _ h in
-    let short : length t ≤ 4096 = within (length t) (not-true _ parts.0) in
+    let parts = and_parts (not (nat_lt MOST_PATH_BYTES (length t))) _ h in
+    let short : length t ≤ MOST_PATH_BYTES = within (length t) (not-true _ parts.0) in
     let p = of_or parts.1 in
     record { path = p.0; is_path = p.1; text_is = p.2; short = short }
   where
-    within : (n : ℕ) → nat_lt 4096 n ≡ false → n ≤ 4096
-    within n e = elim (leb_tells n 4096) [
+    within : (n : ℕ) → nat_lt MOST_PATH_BYTES n ≡ false → n ≤ MOST_PATH_BYTES
+    within n e = elim (leb_tells n MOST_PATH_BYTES) [
       | inl p ↦ p.1
-      | inr p ↦ absurd (true≢false (sym ((Decides-ltb 4096 n).1 p.1) ∙ e))
+      | inr p ↦ absurd (true≢false (sym ((Decides-ltb MOST_PATH_BYTES n).1 p.1) ∙ e))
     ]
 
     last : (v : Bool) → bytes_eq t (47 ∷ []) ≡ v → (v || list_all is_part (pieces (behind_slash t))) ≡ true → (p : PathView) × IsPath p × (t ≡ text_of p)
@@ -140,14 +141,14 @@ spelled_parts ((b ∷ bs) ∷ qs) h =
     or_last false false w e = e
 
 pub is_spelled-complete : (t : List ℕ) → IsPathText t → is_spelled t ≡ true
-is_spelled-complete t h = and_from (not (nat_lt 4096 (length t))) _ (ap not (le-ltb 4096 (length t) h.short))
+is_spelled-complete t h = and_from (not (nat_lt MOST_PATH_BYTES (length t))) _ (ap not (le-ltb MOST_PATH_BYTES (length t) h.short))
     (subst (λ l. (bytes_eq l (46 ∷ []) || (bytes_eq l (47 ∷ []) || list_all is_part (pieces (behind_slash l)))) ≡ true) (sym h.text_is) (spelled_parts h.path h.is_path))
 
 -- the text of a path is read as that path
 pub path_text-read : (t : List ℕ) → (h : IsPathText t) → (is_bad t ≡ false) × (path_of t ≡ h.path) × IsPath (path_of t)
 path_text-read t h =
     let is = ap path_of h.text_is ∙ path_of-text_of h.path h.is_path in (
-      ap is_bad h.text_is ∙ is_bad-text_of h.path h.is_path (subst (λ l. length l ≤ 4096) h.text_is h.short),
+      ap is_bad h.text_is ∙ is_bad-text_of h.path h.is_path (subst (λ l. length l ≤ MOST_PATH_BYTES) h.text_is h.short),
       is,
       subst IsPath (sym is) h.is_path,
     )

@@ -1,6 +1,9 @@
 -- The tracker's turns: it goes on, or it ends.
-use Rattle.std.proofs.Common.{◌≡◌, ℕ, ◌+◌, ◌-◌, ◌^◌, ◌<◌, ◌≤◌, inl, inr, List, [], ◌∷◌, ◌++◌, true, false, ◌||◌, Option, None, length, nat_lt, sym, ◌∙◌, ap, subst, refl, arith, length-append}
+use Rattle.std.proofs.Common.{◌≡◌, ℕ, ◌+◌, ◌-◌, ◌<◌, ◌≤◌, inl, inr, List, [], ◌∷◌, ◌++◌, true, false, ◌||◌, Option, None, length, nat_lt, sym, ◌∙◌, ap, subst, refl, arith, length-append}
 use Rattle.std.proofs.lemmas.List.{append-nil, append_assoc}
+use Rattle.jl_text.specs.declared.limits.TheConstants.{MOST_LINE_BYTES, MOST_INPUT_BYTES}
+use Rattle.jl_text.specs.Counts.{Rose}
+use Rattle.jl_streams.specs.Views.{SourceView, SourceAnswers}
 use Rattle.jl_lines.specs.declared.reader.NextLine.{NextLine}
 use Rattle.jl_lines.specs.declared.reader.NextLine.TheVariants as next_line
 use Rattle.jl_lines.specs.Lines.{first_line, behind_line, lines_of}
@@ -12,25 +15,26 @@ use Rattle.jl_tracker.specs.declared.following.Tracked.TheVariants as tracked
 use Rattle.jl_tracker.specs.TrackerLines.{LineView}
 use Rattle.jl_tracker.specs.Counting.{CountsView, no_counts}
 use Rattle.jl_tracker.specs.Effects.{reports_bad, IsLineReading, line_effects, after_read, effects_from, counts_after, end_effects}
-use Rattle.jl_tracker.specs.Plays.{Stage, Plays, Stops}
+use Rattle.jl_tracker.specs.Stages.{Stage, StageKeeps, point}
+use Rattle.jl_tracker.specs.Plays.{Plays, PlaysAt, Stops}
 use Rattle.jl_tracker.specs.Turns.{HasPaths, Handles, HandlesSome, Concludes}
 use Rattle.jl_tracker.specs.Tracking.{Seen, Going, Tracks, TracksSome}
-use Rattle.jl_tracker.proofs.PlayLemmas.{plays_trans, plays_stops, plays_stop, plays_map, stops_map}
+use Rattle.jl_tracker.proofs.PlayLemmas.{plays_trans, plays_stops, plays_stop}
 use Rattle.jl_tracker.proofs.GoingLemmas.{line_split, seen_line, readings_push, counts_push, effects_push, line_reading}
 use Rattle.jl_tracker.proofs.HeldLemmas.{read_paths}
 
 -- what was read of a line that was passed, and what it brought about
-record Turn (FT ET : Type 0) (me : List ℕ) (number : ℕ) (line : List ℕ) (old new : CountsView) (a b : Stage) : Type 0 where
+record Turn (number : ℕ) (line : List ℕ) (old new : CountsView) (a b : Stage) : Type 0 where
   read : Option LineView
   reading : IsLineReading line read
   counts_is : new ≡ after_read read old
   paths : HasPaths old → HasPaths new
-  plays : Plays FT ET me (line_effects number read old) a b
+  plays : Plays (line_effects number read old) a b
 
 -- the tracker goes on with one more line
-go_line : (ST FT ET : Type 0) (me : List ℕ) (left behind behind' : List ℕ) (a b c : Stage) (reader reader' : ReaderView) (old new : CountsView) (line : List ℕ) → (going : Going ST FT ET me left behind a b reader old)
-    → (ST → Seen (going.lines ++ line ∷ []) left behind') → (ST → reader'.taken + length behind' ≡ length left + length (waiting reader')) → reader'.lines ≡ reader.lines + 1 → reader'.long ≡ false → reader'.limit ≡ reader.limit → Turn FT ET me (reader.lines + 1) line old new b c → Going ST FT ET me left behind' a c reader' new
-go_line ST FT ET me left behind behind' a b c reader reader' old new line going seen taken number short limit turn = record {
+go_line : (source : SourceView) (behind behind' : List ℕ) (a b c : Stage) (reader reader' : ReaderView) (old new : CountsView) (line : List ℕ) → (going : Going source behind a b reader old)
+    → (source.told → Seen (going.lines ++ line ∷ []) source.left behind') → (source.told → reader'.taken + length behind' ≡ length source.left + length (waiting reader')) → StageKeeps a b → reader'.lines ≡ reader.lines + 1 → reader'.long ≡ false → reader'.limit ≡ reader.limit → Turn (reader.lines + 1) line old new b c → Going source behind' a c reader' new
+go_line source behind behind' a b c reader reader' old new line going seen taken keeps number short limit turn = record {
   lines = going.lines ++ line ∷ [];
   readings = going.readings ++ turn.read ∷ [];
   read = readings_push going.lines going.readings line turn.read going.read turn.reading;
@@ -41,9 +45,9 @@ go_line ST FT ET me left behind behind' a b c reader reader' old new line going 
   limit_is = limit ∙ going.limit_is;
   counts_is = turn.counts_is ∙ ap (after_read turn.read) going.counts_is ∙ sym (counts_push no_counts going.readings turn.read);
   paths = turn.paths going.paths;
-  plays = subst (λ es. Plays FT ET me es a c) (sym (effects_push 1 no_counts going.readings turn.read))
-      (plays_trans FT ET me (effects_from 1 no_counts going.readings) (line_effects (1 + length going.readings) turn.read (counts_after no_counts going.readings)) a b c going.plays
-      (subst (λ v. Plays FT ET me (line_effects (1 + length going.readings) turn.read v) b c) going.counts_is (subst (λ n. Plays FT ET me (line_effects n turn.read old) b c) number_is turn.plays)));
+  plays = subst (λ es. Plays es a c) (sym (effects_push 1 no_counts going.readings turn.read))
+      (plays_trans (effects_from 1 no_counts going.readings) (line_effects (1 + length going.readings) turn.read (counts_after no_counts going.readings)) a b c keeps going.plays
+      (subst (λ v. Plays (line_effects (1 + length going.readings) turn.read v) b c) going.counts_is (subst (λ n. Plays (line_effects n turn.read old) b c) number_is turn.plays)));
 }
   where
     number_is : reader.lines + 1 ≡ 1 + length going.readings
@@ -64,7 +68,7 @@ some_bytes [] lt = lt
 some_bytes (b ∷ bs) lt = omega arith
 
 -- a line that is too long, where that was not known before
-over_of : (reader : ReaderView) (bytes : List ℕ) → reader.long ≡ false → reader.limit ≡ 512 → is_long reader bytes ≡ true → 512 < length (first_line bytes)
+over_of : (reader : ReaderView) (bytes : List ℕ) → reader.long ≡ false → reader.limit ≡ MOST_LINE_BYTES → is_long reader bytes ≡ true → MOST_LINE_BYTES < length (first_line bytes)
 over_of reader bytes short limit long = subst (λ m. m < length (first_line bytes)) limit (long_over reader.limit (length (first_line bytes)) (ap (λ v. v || nat_lt reader.limit (length (first_line bytes))) (sym short) ∙ long))
 
 -- how many bytes were taken
@@ -74,45 +78,45 @@ taken_on left got left₁ left₂ w w' taken taken' took is so_far =
     omega (arith, took, all, so_far, length-append w left₁, length-append w' left₂)
 
 -- all bytes were taken that may be, and one more
-taken_much : (left got left₁ left₂ w : List ℕ) (byte taken taken' : ℕ) → taken' ≡ taken + length got → taken' ≡ 2 ^ 40 → left₁ ≡ got ++ byte ∷ left₂ → taken + length (w ++ left₁) ≡ length left + length w → 2 ^ 40 + (1 + length left₂) ≡ length left
+taken_much : (left got left₁ left₂ w : List ℕ) (byte taken taken' : ℕ) → taken' ≡ taken + length got → taken' ≡ MOST_INPUT_BYTES → left₁ ≡ got ++ byte ∷ left₂ → taken + length (w ++ left₁) ≡ length left + length w → MOST_INPUT_BYTES + (1 + length left₂) ≡ length left
 taken_much left got left₁ left₂ w byte taken taken' took full is so_far =
     let all : length left₁ ≡ length got + length (byte ∷ left₂) = ap length is ∙ length-append got (byte ∷ left₂) in
     omega (arith, took, full, all, so_far, length-append w left₁)
 
 -- the tracker goes on behind an answer
-pub goes_on : (ST ST' FT FT' ET ET' : Type 0) (me me' : List ℕ) (left left₁ left₂ : List ℕ) (a b c : Stage) (reader reader' : ReaderView) (old new : CountsView) (answer : NextLine) → (ST → ST') → (FT → FT') → (ET → ET') → me' ≡ me
-    → Going ST FT ET me left (waiting reader ++ left₁) a b reader old → NextStep ST' reader reader' left₁ left₂ answer → Handles FT' ET' me' answer old new b c → Going ST FT ET me left (waiting reader' ++ left₂) a c reader' new
-goes_on ST ST' FT FT' ET ET' me me' left left₁ left₂ a b c reader reader' old new answer st ft et same going step = go answer step.left_is step.answer_is
+pub goes_on : (source from to : SourceView) (a b c : Stage) (reader reader' : ReaderView) (old new : CountsView) (answer : NextLine) → (source.told → from.told) → StageKeeps a b
+    → Going source (waiting reader ++ from.left) a b reader old → NextStep reader reader' from to answer → Handles answer old new b c → Going source (waiting reader' ++ to.left) a c reader' new
+goes_on source from to a b c reader reader' old new answer st keeps going step = go answer step.left_is step.answer_is
   where
     bytes : List ℕ
     bytes = waiting reader ++ step.got
 
-    go : (answer : NextLine) → (ST' → LeftIs answer step.got left₁ left₂) → Answers reader reader' (waiting reader ++ step.got) (ST' → left₂ ≡ []) answer → Handles FT' ET' me' answer old new b c → Going ST FT ET me left (waiting reader' ++ left₂) a c reader' new
+    go : (answer : NextLine) → (from.told → LeftIs answer step.got from to) → Answers reader reader' (waiting reader ++ step.got) (from.told → to.left ≡ []) answer → Handles answer old new b c → Going source (waiting reader' ++ to.left) a c reader' new
     go (next_line.Line number body) took h turn =
-        let short : nat_lt 512 (length (first_line (waiting reader ++ step.got))) ≡ false = subst (λ m. nat_lt m (length (first_line (waiting reader ++ step.got))) ≡ false) going.limit_is (of_or reader.long _ h.1).1 in
-        go_line ST FT ET me left (waiting reader ++ left₁) (waiting reader' ++ left₂) a b c reader reader' old new (first_line (waiting reader ++ step.got)) going
-        (λ t. seen_line going.lines left (waiting reader) step.got left₁ left₂ (waiting reader') (going.seen t) (took (st t)) h.2 (whole_told (waiting reader ++ step.got) left₂ ST' (st t) h.4) h.0.waiting_is)
-        (λ t. taken_on left step.got left₁ left₂ (waiting reader) (waiting reader') reader.taken reader'.taken step.taken_is (took (st t)) (going.taken_is t))
-        (h.0.lines_is ∙ h.0.number_is) h.0.long_is step.limit_is
+        let short : nat_lt MOST_LINE_BYTES (length (first_line (waiting reader ++ step.got))) ≡ false = subst (λ m. nat_lt m (length (first_line (waiting reader ++ step.got))) ≡ false) going.limit_is (of_or reader.long _ h.1).1 in
+        go_line source (waiting reader ++ from.left) (waiting reader' ++ to.left) a b c reader reader' old new (first_line (waiting reader ++ step.got)) going
+        (λ t. seen_line going.lines source.left (waiting reader) step.got from.left to.left (waiting reader') (going.seen t) (took (st t)) h.2 (whole_told (waiting reader ++ step.got) to.left from.told (st t) h.4) h.0.waiting_is)
+        (λ t. taken_on source.left step.got from.left to.left (waiting reader) (waiting reader') reader.taken reader'.taken step.taken_is (took (st t)) (going.taken_is t))
+        keeps (h.0.lines_is ∙ h.0.number_is) h.0.long_is step.limit_is
         (record {
           read = turn.read;
           reading = line_reading (waiting reader ++ step.got) body turn.read h.3 short turn.reading;
           counts_is = turn.counts_is;
           paths = λ p. subst HasPaths (sym turn.counts_is) (read_paths body turn.read old turn.reading p);
-          plays = subst (λ n. Plays FT ET me (line_effects n turn.read old) b c) h.0.number_is (plays_map FT FT' ET ET' me me' (line_effects number turn.read old) b c ft et same turn.plays);
+          plays = subst (λ n. Plays (line_effects n turn.read old) b c) h.0.number_is turn.plays;
         })
     go (next_line.TooLong number) took h turn =
         let over = over_of reader (waiting reader ++ step.got) going.short going.limit_is h.1 in
-        go_line ST FT ET me left (waiting reader ++ left₁) (waiting reader' ++ left₂) a b c reader reader' old new (first_line (waiting reader ++ step.got)) going
-        (λ t. seen_line going.lines left (waiting reader) step.got left₁ left₂ (waiting reader') (going.seen t) (took (st t)) (some_bytes (waiting reader ++ step.got) (omega (arith, over))) (whole_told (waiting reader ++ step.got) left₂ ST' (st t) h.2) h.0.waiting_is)
-        (λ t. taken_on left step.got left₁ left₂ (waiting reader) (waiting reader') reader.taken reader'.taken step.taken_is (took (st t)) (going.taken_is t))
-        (h.0.lines_is ∙ h.0.number_is) h.0.long_is step.limit_is
+        go_line source (waiting reader ++ from.left) (waiting reader' ++ to.left) a b c reader reader' old new (first_line (waiting reader ++ step.got)) going
+        (λ t. seen_line going.lines source.left (waiting reader) step.got from.left to.left (waiting reader') (going.seen t) (took (st t)) (some_bytes (waiting reader ++ step.got) (omega (arith, over))) (whole_told (waiting reader ++ step.got) to.left from.told (st t) h.2) h.0.waiting_is)
+        (λ t. taken_on source.left step.got from.left to.left (waiting reader) (waiting reader') reader.taken reader'.taken step.taken_is (took (st t)) (going.taken_is t))
+        keeps (h.0.lines_is ∙ h.0.number_is) h.0.long_is step.limit_is
         (record {
           read = None;
           reading = inl over;
           counts_is = turn.0;
           paths = λ p. subst HasPaths (sym turn.0) p;
-          plays = subst (λ n. Plays FT ET me (reports_bad n ∷ []) b c) h.0.number_is (plays_map FT FT' ET ET' me me' (reports_bad number ∷ []) b c ft et same turn.1);
+          plays = subst (λ n. Plays (reports_bad n ∷ []) b c) h.0.number_is turn.1;
         })
     go next_line.End took h turn = absurd turn
     go next_line.TooMuch took h turn = absurd turn
@@ -131,68 +135,68 @@ seen_all lines left w got left₁ left₂ s e none end =
     (r.lines_is ∙ ap lines_of (sym all), end)
 
 -- the effects of a line that was cut off, behind those of the lines before
-stops_line : (FT ET : Type 0) (me : List ℕ) (readings : List (Option LineView)) (r : Option LineView) (old : CountsView) (lines : ℕ) (a b c : Stage) → lines ≡ length readings → old ≡ counts_after no_counts readings → Plays FT ET me (effects_from 1 no_counts readings) a b → Stops FT ET me (line_effects (lines + 1) r old) b c
-    → Stops FT ET me (effects_from 1 no_counts (readings ++ r ∷ [])) a c
-stops_line FT ET me readings r old lines a b c number counts plays stops =
+stops_line : (readings : List (Option LineView)) (r : Option LineView) (old : CountsView) (lines : ℕ) (a b c : Stage) → lines ≡ length readings → old ≡ counts_after no_counts readings → StageKeeps a b → Plays (effects_from 1 no_counts readings) a b → Stops (line_effects (lines + 1) r old) b c
+    → Stops (effects_from 1 no_counts (readings ++ r ∷ [])) a c
+stops_line readings r old lines a b c number counts keeps plays stops =
     let n : lines + 1 ≡ 1 + length readings = omega (arith, number) in
-    subst (λ es. Stops FT ET me es a c) (sym (effects_push 1 no_counts readings r))
-    (plays_stops FT ET me (effects_from 1 no_counts readings) (line_effects (1 + length readings) r (counts_after no_counts readings)) a b c plays
-    (subst (λ v. Stops FT ET me (line_effects (1 + length readings) r v) b c) counts (subst (λ k. Stops FT ET me (line_effects k r old) b c) n stops)))
+    subst (λ es. Stops es a c) (sym (effects_push 1 no_counts readings r))
+    (plays_stops (effects_from 1 no_counts readings) (line_effects (1 + length readings) r (counts_after no_counts readings)) a b c keeps plays
+    (subst (λ v. Stops (line_effects (1 + length readings) r v) b c) counts (subst (λ k. Stops (line_effects k r old) b c) n stops)))
 
 -- the tracker ends
-pub concludes : (ST ST' FT FT' ET ET' : Type 0) (me me' : List ℕ) (left left₁ left₂ : List ℕ) (a b c : Stage) (reader reader' : ReaderView) (old : CountsView) (answer : NextLine) (number : ℕ) (end : Tracked) → number ≡ reader'.lines + 1 → (ST → ST') → (FT → FT') → (ET → ET') → me' ≡ me
-    → Going ST FT ET me left (waiting reader ++ left₁) a b reader old → NextStep ST' reader reader' left₁ left₂ answer → Concludes FT' ET' me' end number answer old b c → Tracks ST FT ET me left left₂ a c end
-concludes ST ST' FT FT' ET ET' me me' left left₁ left₂ a b c reader reader' old answer number end next st ft et same going step = go end
+pub concludes : (source from to : SourceView) (a b c : Stage) (reader reader' : ReaderView) (old : CountsView) (answer : NextLine) (number : ℕ) (end : Tracked) → number ≡ reader'.lines + 1 → (source.told → from.told) → StageKeeps a b
+    → Going source (waiting reader ++ from.left) a b reader old → NextStep reader reader' from to answer → Concludes end number answer old b c → Tracks source to a c end
+concludes source from to a b c reader reader' old answer number end next st keeps going step = go end
   where
     w : List ℕ
     w = waiting reader
 
-    at_end : (answer : NextLine) → answer ≡ next_line.End → (ST' → LeftIs answer step.got left₁ left₂) → Answers reader reader' (waiting reader ++ step.got) (ST' → left₂ ≡ []) answer → ST → (going.lines ≡ lines_of left) × (left₂ ≡ [])
+    at_end : (answer : NextLine) → answer ≡ next_line.End → (from.told → LeftIs answer step.got from to) → Answers reader reader' (waiting reader ++ step.got) (from.told → to.left ≡ []) answer → source.told → (going.lines ≡ lines_of source.left) × (to.left ≡ [])
     at_end answer e took h t =
-        let took' = subst (λ x. ST' → LeftIs x step.got left₁ left₂) e took in
-        let h' = subst (λ x. Answers reader reader' (waiting reader ++ step.got) (ST' → left₂ ≡ []) x) e h in
-        seen_all going.lines left (waiting reader) step.got left₁ left₂ (going.seen t) (took' (st t)) h'.2 (h'.3 (st t))
+        let took' = subst (λ x. from.told → LeftIs x step.got from to) e took in
+        let h' = subst (λ x. Answers reader reader' (waiting reader ++ step.got) (from.told → to.left ≡ []) x) e h in
+        seen_all going.lines source.left (waiting reader) step.got from.left to.left (going.seen t) (took' (st t)) h'.2 (h'.3 (st t))
 
     -- no more was there than was taken
-    few : (answer : NextLine) → answer ≡ next_line.End → (ST' → LeftIs answer step.got left₁ left₂) → Answers reader reader' (waiting reader ++ step.got) (ST' → left₂ ≡ []) answer → ST → length left ≤ 2 ^ 40
+    few : (answer : NextLine) → answer ≡ next_line.End → (from.told → LeftIs answer step.got from to) → Answers reader reader' (waiting reader ++ step.got) (from.told → to.left ≡ []) answer → source.told → length source.left ≤ MOST_INPUT_BYTES
     few answer e took h t =
-        let took' = subst (λ x. ST' → LeftIs x step.got left₁ left₂) e took in
-        let h' = subst (λ x. Answers reader reader' (waiting reader ++ step.got) (ST' → left₂ ≡ []) x) e h in
-        let last : length left₂ ≡ 0 = ap length (h'.3 (st t)) in
-        let all : length left₁ ≡ length step.got + length left₂ = ap length (took' (st t)) ∙ length-append step.got left₂ in
-        omega (arith, going.taken_is t, last, all, step.taken_is, step.most, length-append (waiting reader) left₁)
+        let took' = subst (λ x. from.told → LeftIs x step.got from to) e took in
+        let h' = subst (λ x. Answers reader reader' (waiting reader ++ step.got) (from.told → to.left ≡ []) x) e h in
+        let last : length to.left ≡ 0 = ap length (h'.3 (st t)) in
+        let all : length from.left ≡ length step.got + length to.left = ap length (took' (st t)) ∙ length-append step.got to.left in
+        omega (arith, going.taken_is t, last, all, step.taken_is, step.most, length-append (waiting reader) from.left)
 
-    cut : (answer : NextLine) → (ST' → LeftIs answer step.got left₁ left₂) → Answers reader reader' (waiting reader ++ step.got) (ST' → left₂ ≡ []) answer → HandlesSome FT' ET' me' answer old b c → TracksSome ST FT ET me left left₂ a c
+    cut : (answer : NextLine) → (from.told → LeftIs answer step.got from to) → Answers reader reader' (waiting reader ++ step.got) (from.told → to.left ≡ []) answer → HandlesSome answer old b c → TracksSome source to a c
     cut (next_line.Line number body) took h turn =
-        let short : nat_lt 512 (length (first_line (waiting reader ++ step.got))) ≡ false = subst (λ m. nat_lt m (length (first_line (waiting reader ++ step.got))) ≡ false) going.limit_is (of_or reader.long _ h.1).1 in record {
+        let short : nat_lt MOST_LINE_BYTES (length (first_line (waiting reader ++ step.got))) ≡ false = subst (λ m. nat_lt m (length (first_line (waiting reader ++ step.got))) ≡ false) going.limit_is (of_or reader.long _ h.1).1 in record {
           lines = going.lines ++ first_line (waiting reader ++ step.got) ∷ [];
           readings = going.readings ++ turn.read ∷ [];
-          rest = waiting reader';
+          open_line = waiting reader';
           read = readings_push going.lines going.readings (first_line (waiting reader ++ step.got)) turn.read going.read (line_reading (waiting reader ++ step.got) body turn.read h.3 short turn.reading);
-          seen = λ t. seen_line going.lines left (waiting reader) step.got left₁ left₂ (waiting reader') (going.seen t) (took (st t)) h.2 (whole_told (waiting reader ++ step.got) left₂ ST' (st t) h.4) h.0.waiting_is;
-          stops = inl (stops_line FT ET me going.readings turn.read old reader.lines a b c going.number_is going.counts_is going.plays
-              (subst (λ n. Stops FT ET me (line_effects n turn.read old) b c) h.0.number_is (stops_map FT FT' ET ET' me me' (line_effects number turn.read old) b c ft et same turn.stops)));
+          seen = λ t. seen_line going.lines source.left (waiting reader) step.got from.left to.left (waiting reader') (going.seen t) (took (st t)) h.2 (whole_told (waiting reader ++ step.got) to.left from.told (st t) h.4) h.0.waiting_is;
+          stops = inl (stops_line going.readings turn.read old reader.lines a b c going.number_is going.counts_is keeps going.plays
+              (subst (λ n. Stops (line_effects n turn.read old) b c) h.0.number_is turn.stops));
         }
     cut (next_line.TooLong number) took h turn =
         let over = over_of reader (waiting reader ++ step.got) going.short going.limit_is h.1 in record {
           lines = going.lines ++ first_line (waiting reader ++ step.got) ∷ [];
           readings = going.readings ++ None ∷ [];
-          rest = waiting reader';
+          open_line = waiting reader';
           read = readings_push going.lines going.readings (first_line (waiting reader ++ step.got)) None going.read (inl over);
-          seen = λ t. seen_line going.lines left (waiting reader) step.got left₁ left₂ (waiting reader') (going.seen t) (took (st t)) (some_bytes (waiting reader ++ step.got) (omega (arith, over))) (whole_told (waiting reader ++ step.got) left₂ ST' (st t) h.2) h.0.waiting_is;
-          stops = inl (stops_line FT ET me going.readings None old reader.lines a b c going.number_is going.counts_is going.plays
-              (subst (λ n. Stops FT ET me (reports_bad n ∷ []) b c) h.0.number_is (stops_map FT FT' ET ET' me me' (reports_bad number ∷ []) b c ft et same turn)));
+          seen = λ t. seen_line going.lines source.left (waiting reader) step.got from.left to.left (waiting reader') (going.seen t) (took (st t)) (some_bytes (waiting reader ++ step.got) (omega (arith, over))) (whole_told (waiting reader ++ step.got) to.left from.told (st t) h.2) h.0.waiting_is;
+          stops = inl (stops_line going.readings None old reader.lines a b c going.number_is going.counts_is keeps going.plays
+              (subst (λ n. Stops (reports_bad n ∷ []) b c) h.0.number_is turn));
         }
     cut next_line.End took h turn = record {
       lines = going.lines;
       readings = going.readings;
-      rest = waiting reader ++ step.got;
+      open_line = waiting reader ++ step.got;
       read = going.read;
-      seen = λ t. seen_rest going.lines left (waiting reader) step.got left₁ left₂ (going.seen t) (took (st t));
+      seen = λ t. seen_rest going.lines source.left (waiting reader) step.got from.left to.left (going.seen t) (took (st t));
       stops = inr (
         λ t. at_end next_line.End refl took h t,
-        plays_stops FT ET me (effects_from 1 no_counts going.readings) (end_effects (counts_after no_counts going.readings)) a b c going.plays
-            (subst (λ v. Stops FT ET me (end_effects v) b c) going.counts_is (stops_map FT FT' ET ET' me me' (end_effects old) b c ft et same turn)),
+        plays_stops (effects_from 1 no_counts going.readings) (end_effects (counts_after no_counts going.readings)) a b c keeps going.plays
+            (subst (λ v. Stops (end_effects v) b c) going.counts_is turn),
       );
     }
     cut next_line.TooMuch took h turn = absurd turn
@@ -200,56 +204,56 @@ concludes ST ST' FT FT' ET ET' me me' left left₁ left₂ a b c reader reader' 
     cut next_line.NoMemory took h turn = record {
       lines = going.lines;
       readings = going.readings;
-      rest = waiting reader ++ step.got;
+      open_line = waiting reader ++ step.got;
       read = going.read;
-      seen = λ t. seen_rest going.lines left (waiting reader) step.got left₁ left₂ (going.seen t) (took (st t));
-      stops = inl (plays_stop FT ET me (effects_from 1 no_counts going.readings) a c (subst (λ x. Plays FT ET me (effects_from 1 no_counts going.readings) a x) (sym turn) going.plays));
+      seen = λ t. seen_rest going.lines source.left (waiting reader) step.got from.left to.left (going.seen t) (took (st t));
+      stops = inl (plays_stop (effects_from 1 no_counts going.readings) a c (subst (λ x. PlaysAt a (effects_from 1 no_counts going.readings) (point a) x) (sym turn) going.plays));
     }
 
-    go : (end : Tracked) → Concludes FT' ET' me' end number answer old b c → Tracks ST FT ET me left left₂ a c end
+    go : (end : Tracked) → Concludes end number answer old b c → Tracks source to a c end
     go tracked.Ended turn = record {
       lines = going.lines;
       readings = going.readings;
       read = going.read;
       seen = λ t. at_end answer turn.0 step.left_is step.answer_is t;
       few = λ t. few answer turn.0 step.left_is step.answer_is t;
-      plays = plays_trans FT ET me (effects_from 1 no_counts going.readings) (end_effects (counts_after no_counts going.readings)) a b c going.plays
-          (subst (λ v. Plays FT ET me (end_effects v) b c) going.counts_is (plays_map FT FT' ET ET' me me' (end_effects old) b c ft et same turn.1));
+      plays = plays_trans (effects_from 1 no_counts going.readings) (end_effects (counts_after no_counts going.readings)) a b c keeps going.plays
+          (subst (λ v. Plays (end_effects v) b c) going.counts_is turn.1);
     }
     go tracked.ReadFault turn =
-        let took = subst (λ x. ST' → LeftIs x step.got left₁ left₂) turn.0 step.left_is in
-        let h = subst (λ x. Answers reader reader' (waiting reader ++ step.got) (ST' → left₂ ≡ []) x) turn.0 step.answer_is in record {
+        let took = subst (λ x. from.told → LeftIs x step.got from to) turn.0 step.left_is in
+        let h = subst (λ x. Answers reader reader' (waiting reader ++ step.got) (from.told → to.left ≡ []) x) turn.0 step.answer_is in record {
           lines = going.lines;
           readings = going.readings;
-          rest = waiting reader ++ step.got;
+          open_line = waiting reader ++ step.got;
           read = going.read;
           none = h.1;
-          seen = λ t. seen_rest going.lines left (waiting reader) step.got left₁ left₂ (going.seen t) (took (st t));
-          plays = subst (λ x. Plays FT ET me (effects_from 1 no_counts going.readings) a x) (sym turn.1) going.plays;
+          seen = λ t. seen_rest going.lines source.left (waiting reader) step.got from.left to.left (going.seen t) (took (st t));
+          plays = subst (λ x. PlaysAt a (effects_from 1 no_counts going.readings) (point a) x) (sym turn.1) going.plays;
         }
     go (tracked.TooMuch line) turn =
-        let took = subst (λ x. ST' → LeftIs x step.got left₁ left₂) turn.0 step.left_is in
-        let h = subst (λ x. Answers reader reader' (waiting reader ++ step.got) (ST' → left₂ ≡ []) x) turn.0 step.answer_is in record {
+        let took = subst (λ x. from.told → LeftIs x step.got from to) turn.0 step.left_is in
+        let h = subst (λ x. Answers reader reader' (waiting reader ++ step.got) (from.told → to.left ≡ []) x) turn.0 step.answer_is in record {
           lines = going.lines;
           readings = going.readings;
-          rest = waiting reader ++ step.got;
+          open_line = waiting reader ++ step.got;
           read = going.read;
           none = h.1;
-          seen = λ t. ((took (st t)).0, seen_rest going.lines left (waiting reader) step.got left₁ ((took (st t)).0 ∷ left₂) (going.seen t) (took (st t)).1);
-          much = λ t. taken_much left step.got left₁ left₂ (waiting reader) (took (st t)).0 reader.taken reader'.taken step.taken_is h.2 (took (st t)).1 (going.taken_is t);
+          seen = λ t. ((took (st t)).0, seen_rest going.lines source.left (waiting reader) step.got from.left ((took (st t)).0 ∷ to.left) (going.seen t) (took (st t)).1);
+          much = λ t. taken_much source.left step.got from.left to.left (waiting reader) (took (st t)).0 reader.taken reader'.taken step.taken_is h.2 (took (st t)).1 (going.taken_is t);
           number_is = omega (arith, turn.2, next, h.0.lines_is, going.number_is);
-          plays = subst (λ x. Plays FT ET me (effects_from 1 no_counts going.readings) a x) (sym turn.1) going.plays;
+          plays = subst (λ x. PlaysAt a (effects_from 1 no_counts going.readings) (point a) x) (sym turn.1) going.plays;
         }
     go tracked.NoMemory turn = cut answer step.left_is step.answer_is turn
 
 -- nothing was read yet
-pub going_start : (ST FT ET : Type 0) (me : List ℕ) (left : List ℕ) (a : Stage) (reader : ReaderView) (counts : CountsView) → reader ≡ record { limit = 512; taken = 0; lines = 0; long = false; front = []; rest = [] } → counts ≡ no_counts → Going ST FT ET me left (waiting reader ++ left) a a reader counts
-going_start ST FT ET me left a reader counts reader_is counts_is = record {
+pub going_start : (source : SourceView) (a : Stage) (reader : ReaderView) (counts : CountsView) → reader ≡ record { limit = MOST_LINE_BYTES; taken = 0; lines = 0; long = false; front = []; rest = [] } → counts ≡ no_counts → Going source (waiting reader ++ source.left) a a reader counts
+going_start source a reader counts reader_is counts_is = record {
   lines = [];
   readings = [];
   read = tt;
-  seen = λ t. record { input = []; left_is = sym (ap (λ v. waiting v ++ left) reader_is); lines_is = refl; ends = inl (λ more. refl) };
-  taken_is = λ t. omega (arith, ap (λ v. v.taken) reader_is, length-append (waiting reader) left);
+  seen = λ t. record { input = []; left_is = sym (ap (λ v. waiting v ++ source.left) reader_is); lines_is = refl; ends = inl (λ more. refl) };
+  taken_is = λ t. omega (arith, ap (λ v. v.taken) reader_is, length-append (waiting reader) source.left);
   number_is = ap (λ v. v.lines) reader_is;
   short = ap (λ v. v.long) reader_is;
   limit_is = ap (λ v. v.limit) reader_is;
@@ -264,7 +268,7 @@ first_some [] lt = lt
 first_some (b ∷ bs) lt = omega arith
 
 -- a line that is passed leaves less to do
-less_left : (bs w got w' : List ℕ) (taken taken' : ℕ) → bs ≡ w ++ got → 0 < length bs → w' ≡ behind_line bs → taken' ≡ taken + length got → taken' ≤ 2 ^ 40 → (2 ^ 40 - taken') + length w' < (2 ^ 40 - taken) + length w
+less_left : (bs w got w' : List ℕ) (taken taken' : ℕ) → bs ≡ w ++ got → 0 < length bs → w' ≡ behind_line bs → taken' ≡ taken + length got → taken' ≤ MOST_INPUT_BYTES → (MOST_INPUT_BYTES - taken') + length w' < (MOST_INPUT_BYTES - taken) + length w
 less_left bs w got w' taken taken' is some next took most =
     let parts : length (first_line bs) + length (behind_line bs) ≡ length bs = sym (length-append (first_line bs) (behind_line bs)) ∙ ap length (line_split bs) in
     let all : length bs ≡ length w + length got = ap length is ∙ length-append w got in
@@ -272,11 +276,11 @@ less_left bs w got w' taken taken' is some next took most =
     let same : length w' ≡ length (behind_line bs) = ap length next in
     omega (arith, parts, all, one, same, took, most)
 
-pub smaller : (ST FT ET : Type 0) (me : List ℕ) (left left' : List ℕ) (reader reader' : ReaderView) (answer : NextLine) (old new : CountsView) (a b : Stage) → reader.long ≡ false → reader.limit ≡ 512 → NextStep ST reader reader' left left' answer → Handles FT ET me answer old new a b
-    → (2 ^ 40 - reader'.taken) + length (waiting reader') < (2 ^ 40 - reader.taken) + length (waiting reader)
-smaller ST FT ET me left left' reader reader' answer old new a b short limit step h = go answer step.answer_is h
+pub smaller : (from to : SourceView) (reader reader' : ReaderView) (answer : NextLine) (old new : CountsView) (a b : Stage) → reader.long ≡ false → reader.limit ≡ MOST_LINE_BYTES → NextStep reader reader' from to answer → Handles answer old new a b
+    → (MOST_INPUT_BYTES - reader'.taken) + length (waiting reader') < (MOST_INPUT_BYTES - reader.taken) + length (waiting reader)
+smaller from to reader reader' answer old new a b short limit step h = go answer step.answer_is h
   where
-    go : (answer : NextLine) → Answers reader reader' (waiting reader ++ step.got) (ST → left' ≡ []) answer → Handles FT ET me answer old new a b → (2 ^ 40 - reader'.taken) + length (waiting reader') < (2 ^ 40 - reader.taken) + length (waiting reader)
+    go : (answer : NextLine) → Answers reader reader' (waiting reader ++ step.got) (from.told → to.left ≡ []) answer → Handles answer old new a b → (MOST_INPUT_BYTES - reader'.taken) + length (waiting reader') < (MOST_INPUT_BYTES - reader.taken) + length (waiting reader)
     go (next_line.Line number body) h turn = less_left (waiting reader ++ step.got) (waiting reader) step.got (waiting reader') reader.taken reader'.taken refl h.2 h.0.waiting_is step.taken_is step.most
     go (next_line.TooLong number) h turn =
         less_left (waiting reader ++ step.got) (waiting reader) step.got (waiting reader') reader.taken reader'.taken refl (some_bytes (waiting reader ++ step.got) (omega (arith, over_of reader (waiting reader ++ step.got) short limit h.1))) h.0.waiting_is step.taken_is step.most
@@ -284,3 +288,31 @@ smaller ST FT ET me left left' reader reader' answer old new a b short limit ste
     go next_line.TooMuch h turn = absurd turn
     go next_line.ReadFault h turn = absurd turn
     go next_line.NoMemory h turn = absurd turn
+
+-- a tracker that goes on met no fault of its source
+pub no_fault : (answer : NextLine) (old new : CountsView) (a b : Stage) → Handles answer old new a b → answer ≡ next_line.ReadFault → ⊥
+no_fault (next_line.Line number body) old new a b h e = cc
+no_fault (next_line.TooLong number) old new a b h e = cc
+no_fault next_line.End old new a b h e = h
+no_fault next_line.TooMuch old new a b h e = h
+no_fault next_line.ReadFault old new a b h e = h
+no_fault next_line.NoMemory old new a b h e = h
+
+-- a tracker that ends by a fault of its source read one just then
+fault_of : (end : Tracked) (number : ℕ) (answer : NextLine) (old : CountsView) (a b : Stage) → Concludes end number answer old a b → (answer ≡ next_line.ReadFault → end ≡ tracked.ReadFault) × (end ≡ tracked.ReadFault → answer ≡ next_line.ReadFault)
+fault_of tracked.Ended number answer old a b h = let is = h.0 in (λ e. cc, λ e. cc)
+fault_of tracked.ReadFault number answer old a b h = (λ e. refl, λ e. h.0)
+fault_of (tracked.TooMuch line) number answer old a b h = let is = h.0 in (λ e. cc, λ e. cc)
+fault_of tracked.NoMemory number answer old a b h = (λ e. absurd (subst (λ x. HandlesSome x old a b) e h), λ e. cc)
+
+-- the faults of the source are those of its last read
+pub fault_ends : (source from to : SourceView) (a b : Stage) (answer : NextLine) (number : ℕ) (end : Tracked) (old : CountsView) → (source.told → from.told) → from.faults ≡ source.faults → SourceAnswers (answer ≡ next_line.ReadFault) from to → Concludes end number answer old a b → SourceAnswers (end ≡ tracked.ReadFault) source to
+fault_ends source from to a b answer number end old told steady q h =
+    let is = fault_of end number answer old a b h in record {
+      told = λ t. q.told (told t);
+      faults = record {
+        later = omega (arith, steady, q.faults.later);
+        failed = λ e. subst (λ n. Rose n to.faults) steady (q.faults.failed (is.1 e));
+        steady = λ fine. q.faults.steady (λ e. fine (is.0 e)) ∙ steady;
+      };
+    }

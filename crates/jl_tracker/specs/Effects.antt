@@ -1,6 +1,7 @@
 -- What the tracker does for the lines that it is sent, one effect after the other.
 use Rattle.std.specs.Prelude.{ℕ, ◌+◌, ◌<◌, ◌≤◌, ◌⊎◌, List, [], ◌∷◌, ◌++◌, Bool, true, false, Option, Some, None, codes, length}
 use Rattle.std.specs.Fmt.{decimal}
+use Rattle.jl_text.specs.declared.limits.TheConstants.{MOST_LINE_BYTES}
 use Rattle.jl_lines.specs.Lines.{body_of}
 use Rattle.jl_tracker.specs.declared.line.Kind.{Kind}
 use Rattle.jl_tracker.specs.declared.line.Kind.TheVariants as kind
@@ -67,10 +68,10 @@ abbrev pub IsReading : List ℕ → Option LineView → Type 0
 IsReading bytes (Some said) = IsTrackerLine bytes said
 IsReading bytes None = (said : LineView) → ¬ (IsTrackerLine bytes said)
 
--- a line of at most 512 bytes with its newline is read so; a longer one is bad
+-- a line that is not too long, with its newline, is read so; a longer one is bad
 abbrev pub IsLineReading : List ℕ → Option LineView → Type 0
-IsLineReading line (Some said) = (length line ≤ 512) × IsTrackerLine (body_of line) said
-IsLineReading line None = (512 < length line) ⊎ ((said : LineView) → ¬ (IsTrackerLine (body_of line) said))
+IsLineReading line (Some said) = (length line ≤ MOST_LINE_BYTES) × IsTrackerLine (body_of line) said
+IsLineReading line None = (MOST_LINE_BYTES < length line) ⊎ ((said : LineView) → ¬ (IsTrackerLine (body_of line) said))
 
 -- each line is read so
 abbrev pub AreReadings : List (List ℕ) → List (Option LineView) → Type 0

@@ -1,6 +1,7 @@
 -- The resources of one kind that are registered, in order of registration, with their counts.
-use Rattle.std.specs.Prelude.{◌≡◌, ℕ, ◌+◌, ◌-◌, ◌^◌, List, [], ◌∷◌, Option, Some, None, min, nat_lt, cond}
+use Rattle.std.specs.Prelude.{◌≡◌, ℕ, ◌-◌, List, [], ◌∷◌, Option, Some, None, nat_lt, cond}
 use Rattle.std.specs.Str.{bytes_eq}
+use Rattle.jl_text.specs.Counts.{counted}
 use Rattle.jl_tracker.specs.declared.table.Step.{Step}
 use Rattle.jl_tracker.specs.declared.table.Step.TheVariants as step
 
@@ -22,10 +23,6 @@ put name n (e ∷ es) = cond (bytes_eq name e.0) ((e.0, n) ∷ es) (e ∷ put na
 abbrev pub without : List ℕ → Entries → Entries
 without name [] = []
 without name (e ∷ es) = cond (bytes_eq name e.0) es (e ∷ without name es)
-
--- one more, up to the last value
-abbrev pub counted : ℕ → ℕ
-counted n = min (n + 1) (2 ^ 64 - 1)
 
 -- the count that a name gets by one more reference
 abbrev pub more_of : Option ℕ → ℕ

@@ -7,6 +7,8 @@ pub mod Parts
 pub mod PathTexts
 pub mod Plays
 pub mod Removing
+pub mod Stages
+pub mod Taking
 pub mod TrackerLines
 pub mod Tracking
 pub mod Tries

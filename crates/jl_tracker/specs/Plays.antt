@@ -1,64 +1,66 @@
 -- How effects come about in a folder and on the error stream, beside others' moves.
-use Rattle.std.specs.Prelude.{◌≡◌, ℕ, ◌≤◌, ◌⊎◌, List, [], ◌∷◌, ◌++◌, Bool, false}
-use Rattle.jl_folder.specs.State.{History}
+use Rattle.std.specs.Prelude.{◌≡◌, ℕ, ◌≤◌, ◌⊎◌, List, [], ◌∷◌, ◌++◌, Bool, true, false}
 use Rattle.jl_text.specs.Counts.{Rose}
 use Rattle.jl_streams.specs.Streams.{WritesPrefix}
+use Rattle.jl_tracker.specs.Stages.{Stage, FolderPoint, SinkPoint, Point, point}
 use Rattle.jl_tracker.specs.Removing.{Removal, CutRemoval}
 use Rattle.jl_tracker.specs.Effects.{Effect, reports_bad, reports_unknown, reports_leaked, removes, text_of}
 
--- the folder's history and count of faults, and what was written and how many writes failed
-pub record Stage : Type 0 where
-  pub history : History
-  pub faults : ℕ
-  pub written : List ℕ
-  pub errors : ℕ
-
-abbrev pub stage : History → ℕ → List ℕ → ℕ → Stage
-stage h f w e = record { history = h; faults = f; written = w; errors = e }
-
 -- the text was written, or a prefix of it where a write failed
-abbrev pub Wrote : List ℕ → List ℕ → List ℕ → ℕ → ℕ → Type 0
-Wrote text w w' e e' = (e ≤ e') × ((w' ≡ w ++ text) ⊎ (WritesPrefix text w w' × Rose e e'))
+abbrev pub Wrote : List ℕ → SinkPoint → SinkPoint → Type 0
+Wrote text old new = (old.faults ≤ new.faults) × (((new.written ≡ old.written ++ text) × (new.faults ≡ old.faults)) ⊎ (WritesPrefix text old.written new.written × Rose old.faults new.faults))
 
 -- an effect's moves: those of one removal, or none
-abbrev pub EffectMoves : List ℕ → Effect → Bool → History → History → ℕ → ℕ → Type 0
-EffectMoves me (reports_bad number) done a b f g = (b ≡ a) × (g ≡ f)
-EffectMoves me (reports_unknown k name) done a b f g = (b ≡ a) × (g ≡ f)
-EffectMoves me (reports_leaked k name) done a b f g = (b ≡ a) × (g ≡ f)
-EffectMoves me (removes k name) done a b f g = Removal me k name done a b f g
+abbrev pub EffectMoves : Effect → Bool → FolderPoint → FolderPoint → Type 0
+EffectMoves (reports_bad number) done old new = new ≡ old
+EffectMoves (reports_unknown k name) done old new = new ≡ old
+EffectMoves (reports_leaked k name) done old new = new ≡ old
+EffectMoves (removes k name) done old new = Removal k name done old new
 
--- the effect comes about: its moves where the folder tells, and its text where the stream tells
-pub record Does (FolderTold StreamTold : Type 0) (me : List ℕ) (e : Effect) (done : Bool) (a b : Stage) : Type 0 where
-  pub moves : FolderTold → EffectMoves me e done a.history b.history a.faults b.faults
-  pub text : StreamTold → Wrote (text_of e done) a.written b.written a.errors b.errors
+-- the effect comes about between two points of a stage: its moves where the folder tells, and its text where the stream tells
+pub record Does (s : Stage) (e : Effect) (done : Bool) (a b : Point) : Type 0 where
+  pub moves : s.folder.told → EffectMoves e done a.folder b.folder
+  pub text : s.err.told → Wrote (text_of e done) a.err b.err
 
--- the effects come about one after the other
-abbrev pub Plays : Type 0 → Type 0 → List ℕ → List Effect → Stage → Stage → Type 0
-Plays FolderTold StreamTold me [] a b = b ≡ a
-Plays FolderTold StreamTold me (e ∷ es) a b = (done : Bool) × (m : Stage) × Does FolderTold StreamTold me e done a m × Plays FolderTold StreamTold me es m b
+-- the effects come about between two points of a stage, one after the other
+abbrev pub PlaysAt : Stage → List Effect → Point → Point → Type 0
+PlaysAt s [] a b = b ≡ a
+PlaysAt s (e ∷ es) a b = (done : Bool) × (mid : Point) × Does s e done a mid × PlaysAt s es mid b
+
+-- the effects come about
+abbrev pub Plays : List Effect → Stage → Stage → Type 0
+Plays es old new = PlaysAt old es (point old) (point new)
 
 -- what want of memory leaves of an effect: nothing, or a part of the moves of a removal, or all of those of one that can't be done; no text is written
-abbrev pub EffectCut : List ℕ → Effect → History → History → ℕ → ℕ → Type 0
-EffectCut me (reports_bad number) a b f g = (b ≡ a) × (g ≡ f)
-EffectCut me (reports_unknown k name) a b f g = (b ≡ a) × (g ≡ f)
-EffectCut me (reports_leaked k name) a b f g = (b ≡ a) × (g ≡ f)
-EffectCut me (removes k name) a b f g = CutRemoval me k name a b f g ⊎ Removal me k name false a b f g
+abbrev pub EffectCut : Effect → FolderPoint → FolderPoint → Type 0
+EffectCut (reports_bad number) old new = new ≡ old
+EffectCut (reports_unknown k name) old new = new ≡ old
+EffectCut (reports_leaked k name) old new = new ≡ old
+EffectCut (removes k name) old new = CutRemoval k name old new ⊎ Removal k name false old new
 
-pub record Cut (FolderTold : Type 0) (me : List ℕ) (e : Effect) (a b : Stage) : Type 0 where
-  pub moves : FolderTold → EffectCut me e a.history b.history a.faults b.faults
-  pub written_is : b.written ≡ a.written
-  pub errors_is : b.errors ≡ a.errors
+pub record Cut (s : Stage) (e : Effect) (a b : Point) : Type 0 where
+  pub moves : s.folder.told → EffectCut e a.folder b.folder
+  pub err_is : b.err ≡ a.err
 
 -- want of memory came before the first of these effects, or within it
-abbrev pub CutFirst : Type 0 → List ℕ → List Effect → Stage → Stage → Type 0
-CutFirst FolderTold me [] a b = b ≡ a
-CutFirst FolderTold me (e ∷ es) a b = (b ≡ a) ⊎ Cut FolderTold me e a b
+abbrev pub CutFirst : Stage → List Effect → Point → Point → Type 0
+CutFirst s [] a b = b ≡ a
+CutFirst s (e ∷ es) a b = (b ≡ a) ⊎ Cut s e a b
 
--- the first of the effects came about, and then there was no memory
-pub record Stops (FolderTold StreamTold : Type 0) (me : List ℕ) (es : List Effect) (a b : Stage) : Type 0 where
+-- the first of the effects came about between two points of a stage, and then there was no memory
+pub record StopsAt (s : Stage) (es : List Effect) (a b : Point) : Type 0 where
   pub first : List Effect
   pub rest : List Effect
   pub split : es ≡ first ++ rest
-  pub at : Stage
-  pub plays : Plays FolderTold StreamTold me first a at
-  pub cut : CutFirst FolderTold me rest at b
+  pub mid : Point
+  pub plays : PlaysAt s first a mid
+  pub cut : CutFirst s rest mid b
+
+-- the first of the effects came about, and then there was no memory
+abbrev pub Stops : List Effect → Stage → Stage → Type 0
+Stops es old new = StopsAt old es (point old) (point new)
+
+-- all of the effects came about, or there was no memory
+abbrev pub PlaysOrStops : Bool → List Effect → Stage → Stage → Type 0
+PlaysOrStops true es old new = Plays es old new
+PlaysOrStops false es old new = Stops es old new

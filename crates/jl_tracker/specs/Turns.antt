@@ -11,7 +11,8 @@ use Rattle.jl_tracker.specs.TrackerLines.{LineView, registers, unregisters, may_
 use Rattle.jl_tracker.specs.Entries.{Entries}
 use Rattle.jl_tracker.specs.Counting.{CountsView}
 use Rattle.jl_tracker.specs.Effects.{IsReading, after_read, line_effects, reports_bad, end_effects}
-use Rattle.jl_tracker.specs.Plays.{Stage, Plays, Stops}
+use Rattle.jl_tracker.specs.Stages.{Stage, point}
+use Rattle.jl_tracker.specs.Plays.{Plays, Stops}
 use Rattle.jl_tracker.specs.Tries.{IsRemovable}
 
 -- the resource of a line, if it is a file or a folder, has a path
@@ -22,17 +23,17 @@ IsSaidRemovable (may_unlink k name) = IsRemovable k name
 IsSaidRemovable probes = Unit {0}
 
 -- a line was read, counted and brought about
-pub record LinePlays (FolderTold StreamTold : Type 0) (me : List ℕ) (number : ℕ) (bytes : List ℕ) (old new : CountsView) (a b : Stage) : Type 0 where
+pub record LinePlays (number : ℕ) (bytes : List ℕ) (old new : CountsView) (before after : Stage) : Type 0 where
   pub read : Option LineView
   pub reading : IsReading bytes read
   pub counts_is : new ≡ after_read read old
-  pub plays : Plays FolderTold StreamTold me (line_effects number read old) a b
+  pub plays : Plays (line_effects number read old) before after
 
 -- a line was read, and then there was no memory
-pub record LineStops (FolderTold StreamTold : Type 0) (me : List ℕ) (number : ℕ) (bytes : List ℕ) (old : CountsView) (a b : Stage) : Type 0 where
+pub record LineStops (number : ℕ) (bytes : List ℕ) (old : CountsView) (before after : Stage) : Type 0 where
   pub read : Option LineView
   pub reading : IsReading bytes read
-  pub stops : Stops FolderTold StreamTold me (line_effects number read old) a b
+  pub stops : Stops (line_effects number read old) before after
 
 -- each file and folder has a path
 abbrev pub Held : Kind → Entries → Type 0
@@ -51,26 +52,26 @@ AreRemovable [] = Unit {0}
 AreRemovable (l ∷ ls) = IsRemovable l.kind l.name × AreRemovable ls
 
 -- what follows on an answer of the reader, if the tracker goes on
-abbrev pub Handles : Type 0 → Type 0 → List ℕ → NextLine → CountsView → CountsView → Stage → Stage → Type 0
-Handles FT ET me (next_line.Line number body) old new a b = LinePlays FT ET me number body old new a b
-Handles FT ET me (next_line.TooLong number) old new a b = (new ≡ old) × Plays FT ET me (reports_bad number ∷ []) a b
-Handles FT ET me next_line.End old new a b = ⊥
-Handles FT ET me next_line.TooMuch old new a b = ⊥
-Handles FT ET me next_line.ReadFault old new a b = ⊥
-Handles FT ET me next_line.NoMemory old new a b = ⊥
+abbrev pub Handles : NextLine → CountsView → CountsView → Stage → Stage → Type 0
+Handles (next_line.Line number body) old new before after = LinePlays number body old new before after
+Handles (next_line.TooLong number) old new before after = (new ≡ old) × Plays (reports_bad number ∷ []) before after
+Handles next_line.End old new before after = ⊥
+Handles next_line.TooMuch old new before after = ⊥
+Handles next_line.ReadFault old new before after = ⊥
+Handles next_line.NoMemory old new before after = ⊥
 
 -- there was no memory for what follows on an answer
-abbrev pub HandlesSome : Type 0 → Type 0 → List ℕ → NextLine → CountsView → Stage → Stage → Type 0
-HandlesSome FT ET me (next_line.Line number body) old a b = LineStops FT ET me number body old a b
-HandlesSome FT ET me (next_line.TooLong number) old a b = Stops FT ET me (reports_bad number ∷ []) a b
-HandlesSome FT ET me next_line.End old a b = Stops FT ET me (end_effects old) a b
-HandlesSome FT ET me next_line.TooMuch old a b = ⊥
-HandlesSome FT ET me next_line.ReadFault old a b = ⊥
-HandlesSome FT ET me next_line.NoMemory old a b = b ≡ a
+abbrev pub HandlesSome : NextLine → CountsView → Stage → Stage → Type 0
+HandlesSome (next_line.Line number body) old before after = LineStops number body old before after
+HandlesSome (next_line.TooLong number) old before after = Stops (reports_bad number ∷ []) before after
+HandlesSome next_line.End old before after = Stops (end_effects old) before after
+HandlesSome next_line.TooMuch old before after = ⊥
+HandlesSome next_line.ReadFault old before after = ⊥
+HandlesSome next_line.NoMemory old before after = point after ≡ point before
 
 -- what follows on an answer, if the tracker ends; the number is that of the line that is read next
-abbrev pub Concludes : Type 0 → Type 0 → List ℕ → Tracked → ℕ → NextLine → CountsView → Stage → Stage → Type 0
-Concludes FT ET me tracked.Ended number answer old a b = (answer ≡ next_line.End) × Plays FT ET me (end_effects old) a b
-Concludes FT ET me tracked.ReadFault number answer old a b = (answer ≡ next_line.ReadFault) × (b ≡ a)
-Concludes FT ET me (tracked.TooMuch line) number answer old a b = (answer ≡ next_line.TooMuch) × (b ≡ a) × (line ≡ number)
-Concludes FT ET me tracked.NoMemory number answer old a b = HandlesSome FT ET me answer old a b
+abbrev pub Concludes : Tracked → ℕ → NextLine → CountsView → Stage → Stage → Type 0
+Concludes tracked.Ended number answer old before after = (answer ≡ next_line.End) × Plays (end_effects old) before after
+Concludes tracked.ReadFault number answer old before after = (answer ≡ next_line.ReadFault) × (point after ≡ point before)
+Concludes (tracked.TooMuch line) number answer old before after = (answer ≡ next_line.TooMuch) × (point after ≡ point before) × (line ≡ number)
+Concludes tracked.NoMemory number answer old before after = HandlesSome answer old before after

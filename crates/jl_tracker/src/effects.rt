@@ -1,9 +1,11 @@
 // Brings about what the lines ask for.
-ghost use Rattle.std.specs.Prelude.{◌≡◌, ◌≤◌, ◌∷◌, [], true, false, MatchBool};
+ghost use Rattle.std.specs.Prelude.{◌≡◌, ◌∷◌, [], true, false, MatchBool};
 ghost use Rattle.jl_tracker.specs.TrackerLines.{view_of};
 ghost use Rattle.jl_tracker.specs.Counting.{after_line, answer_of};
 ghost use Rattle.jl_tracker.specs.Effects.{removes, removal_text, step_effects, effects_of};
-ghost use Rattle.jl_tracker.specs.Plays.{Plays, Stops, Wrote, stage};
+ghost use Rattle.jl_streams.specs.Views.{SinkKeeps};
+ghost use Rattle.jl_tracker.specs.Plays.{Plays, Stops, PlaysOrStops, Wrote};
+ghost use Rattle.jl_tracker.specs.Stages.{StageKeeps, sink_point, stage};
 ghost use Rattle.jl_tracker.specs.Tries.{IsRemovable};
 ghost use Rattle.jl_tracker.specs.Turns.{IsSaidRemovable, LinePlays, LineStops};
 
@@ -18,9 +20,8 @@ use std::alloc::Global;
 
 // Writes the text about a resource that isn't removed.
 fn say_kept<E: Sink>(alloc: Global, err: &mut E, kind: Kind, name: &str) -> bool
-    ensures wrote { MatchBool result (E.told err.old → Wrote (removal_text kind name.now false) (E.written err.old) (E.written err.new) (E.faults err.old) (E.faults err.new)) (err.new ≡ err.old) }
-    ensures told { E.told err.old → E.told err.new }
-    ensures later { E.faults err.old ≤ E.faults err.new }
+    ensures wrote { MatchBool result ((E.view err.old).told → Wrote (removal_text kind name.now false) (sink_point (E.view err.old)) (sink_point (E.view err.new))) (err.new ≡ err.old) }
+    ensures frame { SinkKeeps (E.view err.old) (E.view err.new) }
 {
     match kind {
         Kind::File => say(alloc, err, "cannot remove", kind, name),
@@ -38,13 +39,8 @@ pub fn remove_reported<F: Folder, E: Sink>(
     name: &str,
 ) -> bool
     requires { IsRemovable kind name.now }
-    ensures plays { MatchBool result (Plays (F.told folder.old) (E.told err.old) (F.token folder.old) (removes kind name.now ∷ []) (stage (F.history folder.old) (F.faults folder.old) (E.written err.old) (E.faults err.old)) (stage (F.history folder.new) (F.faults folder.new) (E.written err.new) (E.faults err.new))) (Stops (F.told folder.old) (E.told err.old) (F.token folder.old) (removes kind name.now ∷ []) (stage (F.history folder.old) (F.faults folder.old) (E.written err.old) (E.faults err.old)) (stage (F.history folder.new) (F.faults folder.new) (E.written err.new) (E.faults err.new))) }
-    ensures folder_told { F.told folder.old → F.told folder.new }
-    ensures err_told { E.told err.old → E.told err.new }
-    ensures token { F.token folder.new ≡ F.token folder.old }
-    ensures opens { F.opens folder.new ≡ F.opens folder.old }
-    ensures folder_later { F.faults folder.old ≤ F.faults folder.new }
-    ensures err_later { E.faults err.old ≤ E.faults err.new }
+    ensures plays { PlaysOrStops result (removes kind name.now ∷ []) (stage (F.view folder.old) (E.view err.old)) (stage (F.view folder.new) (E.view err.new)) }
+    ensures frame { StageKeeps (stage (F.view folder.old) (E.view err.old)) (stage (F.view folder.new) (E.view err.new)) }
 {
     match remove(alloc, folder, kind, name) {
         Tried::Gone => true,
@@ -63,14 +59,9 @@ fn finish_step<F: Folder, E: Sink>(
     step: Step,
 ) -> bool
     requires { IsRemovable kind name.now }
-    ensures plays { MatchBool result (Plays (F.told folder.old) (E.told err.old) (F.token folder.old) (step_effects kind name.now step) (stage (F.history folder.old) (F.faults folder.old) (E.written err.old) (E.faults err.old)) (stage (F.history folder.new) (F.faults folder.new) (E.written err.new) (E.faults err.new))) (Stops (F.told folder.old) (E.told err.old) (F.token folder.old) (step_effects kind name.now step) (stage (F.history folder.old) (F.faults folder.old) (E.written err.old) (E.faults err.old)) (stage (F.history folder.new) (F.faults folder.new) (E.written err.new) (E.faults err.new))) }
+    ensures plays { PlaysOrStops result (step_effects kind name.now step) (stage (F.view folder.old) (E.view err.old)) (stage (F.view folder.new) (E.view err.new)) }
     ensures there { step ≡ Step.NoMemory → result ≡ false }
-    ensures folder_told { F.told folder.old → F.told folder.new }
-    ensures err_told { E.told err.old → E.told err.new }
-    ensures token { F.token folder.new ≡ F.token folder.old }
-    ensures opens { F.opens folder.new ≡ F.opens folder.old }
-    ensures folder_later { F.faults folder.old ≤ F.faults folder.new }
-    ensures err_later { E.faults err.old ≤ E.faults err.new }
+    ensures frame { StageKeeps (stage (F.view folder.old) (E.view err.old)) (stage (F.view folder.new) (E.view err.new)) }
 {
     match step {
         Step::Remove => remove_reported(alloc, folder, err, kind, name),
@@ -97,14 +88,9 @@ fn finish_line<F: Folder, E: Sink>(
     step: Step,
 ) -> bool
     requires { IsSaidRemovable (view_of line.now) }
-    ensures plays { MatchBool result (Plays (F.told folder.old) (E.told err.old) (F.token folder.old) (effects_of (view_of line.now) step) (stage (F.history folder.old) (F.faults folder.old) (E.written err.old) (E.faults err.old)) (stage (F.history folder.new) (F.faults folder.new) (E.written err.new) (E.faults err.new))) (Stops (F.told folder.old) (E.told err.old) (F.token folder.old) (effects_of (view_of line.now) step) (stage (F.history folder.old) (F.faults folder.old) (E.written err.old) (E.faults err.old)) (stage (F.history folder.new) (F.faults folder.new) (E.written err.new) (E.faults err.new))) }
+    ensures plays { PlaysOrStops result (effects_of (view_of line.now) step) (stage (F.view folder.old) (E.view err.old)) (stage (F.view folder.new) (E.view err.new)) }
     ensures there { step ≡ Step.NoMemory → result ≡ false }
-    ensures folder_told { F.told folder.old → F.told folder.new }
-    ensures err_told { E.told err.old → E.told err.new }
-    ensures token { F.token folder.new ≡ F.token folder.old }
-    ensures opens { F.opens folder.new ≡ F.opens folder.old }
-    ensures folder_later { F.faults folder.old ≤ F.faults folder.new }
-    ensures err_later { E.faults err.old ≤ E.faults err.new }
+    ensures frame { StageKeeps (stage (F.view folder.old) (E.view err.old)) (stage (F.view folder.new) (E.view err.new)) }
 {
     match *line {
         Line::Register(_, _) => has_memory(step),
@@ -123,13 +109,8 @@ fn take_good<F: Folder, E: Sink>(
     line: &Line<'_>,
 ) -> bool
     requires { IsSaidRemovable (view_of line.now) }
-    ensures plays { MatchBool result ((counts.new ≡ after_line (view_of line.now) counts.old) × (Plays (F.told folder.old) (E.told err.old) (F.token folder.old) (effects_of (view_of line.now) (answer_of (view_of line.now) counts.old)) (stage (F.history folder.old) (F.faults folder.old) (E.written err.old) (E.faults err.old)) (stage (F.history folder.new) (F.faults folder.new) (E.written err.new) (E.faults err.new)))) (Stops (F.told folder.old) (E.told err.old) (F.token folder.old) (effects_of (view_of line.now) (answer_of (view_of line.now) counts.old)) (stage (F.history folder.old) (F.faults folder.old) (E.written err.old) (E.faults err.old)) (stage (F.history folder.new) (F.faults folder.new) (E.written err.new) (E.faults err.new))) }
-    ensures folder_told { F.told folder.old → F.told folder.new }
-    ensures err_told { E.told err.old → E.told err.new }
-    ensures token { F.token folder.new ≡ F.token folder.old }
-    ensures opens { F.opens folder.new ≡ F.opens folder.old }
-    ensures folder_later { F.faults folder.old ≤ F.faults folder.new }
-    ensures err_later { E.faults err.old ≤ E.faults err.new }
+    ensures plays { MatchBool result ((counts.new ≡ after_line (view_of line.now) counts.old) × (Plays (effects_of (view_of line.now) (answer_of (view_of line.now) counts.old)) (stage (F.view folder.old) (E.view err.old)) (stage (F.view folder.new) (E.view err.new)))) (Stops (effects_of (view_of line.now) (answer_of (view_of line.now) counts.old)) (stage (F.view folder.old) (E.view err.old)) (stage (F.view folder.new) (E.view err.new))) }
+    ensures frame { StageKeeps (stage (F.view folder.old) (E.view err.old)) (stage (F.view folder.new) (E.view err.new)) }
 {
     let step = counts.apply(alloc, line);
     finish_line(alloc, folder, err, line, step)
@@ -144,13 +125,8 @@ pub fn take_line<F: Folder, E: Sink>(
     number: u64,
     bytes: &[u8],
 ) -> bool
-    ensures plays { MatchBool result (LinePlays (F.told folder.old) (E.told err.old) (F.token folder.old) number bytes.now counts.old counts.new (stage (F.history folder.old) (F.faults folder.old) (E.written err.old) (E.faults err.old)) (stage (F.history folder.new) (F.faults folder.new) (E.written err.new) (E.faults err.new))) (LineStops (F.told folder.old) (E.told err.old) (F.token folder.old) number bytes.now counts.old (stage (F.history folder.old) (F.faults folder.old) (E.written err.old) (E.faults err.old)) (stage (F.history folder.new) (F.faults folder.new) (E.written err.new) (E.faults err.new))) }
-    ensures folder_told { F.told folder.old → F.told folder.new }
-    ensures err_told { E.told err.old → E.told err.new }
-    ensures token { F.token folder.new ≡ F.token folder.old }
-    ensures opens { F.opens folder.new ≡ F.opens folder.old }
-    ensures folder_later { F.faults folder.old ≤ F.faults folder.new }
-    ensures err_later { E.faults err.old ≤ E.faults err.new }
+    ensures plays { MatchBool result (LinePlays number bytes.now counts.old counts.new (stage (F.view folder.old) (E.view err.old)) (stage (F.view folder.new) (E.view err.new))) (LineStops number bytes.now counts.old (stage (F.view folder.old) (E.view err.old)) (stage (F.view folder.new) (E.view err.new))) }
+    ensures frame { StageKeeps (stage (F.view folder.old) (E.view err.old)) (stage (F.view folder.new) (E.view err.new)) }
 {
     match read_line(bytes) {
         Ok(line) => take_good(alloc, counts, folder, err, &line),

@@ -1,9 +1,11 @@
 // Follows the lines of a source to its end.
-ghost use Rattle.std.specs.Prelude.{◌≡◌, ◌≤◌, ◌∷◌, [], true, false, MatchBool, MatchOption, Some, if◌then◌else◌};
-ghost use Rattle.jl_text.specs.Counts.{Faults};
+ghost use Rattle.std.specs.Prelude.{◌≡◌, ◌∷◌, [], true, false, MatchOption, Some, if◌then◌else◌};
+ghost use Rattle.jl_streams.specs.Views.{SourceAnswers};
 ghost use Rattle.jl_tracker.specs.Counting.{left_of};
 ghost use Rattle.jl_tracker.specs.Effects.{reports_leaked, removes, left_effects, end_effects};
-ghost use Rattle.jl_tracker.specs.Plays.{Plays, Stops, stage};
+ghost use Rattle.jl_tracker.specs.Plays.{PlaysOrStops};
+ghost use Rattle.jl_tracker.specs.Stages.{StageKeeps, stage};
+ghost use Rattle.jl_tracker.specs.Taking.{MovesAsked};
 ghost use Rattle.jl_tracker.specs.Tracking.{Tracks};
 ghost use Rattle.jl_tracker.specs.Tries.{IsRemovable};
 ghost use Rattle.jl_tracker.specs.Turns.{AreRemovable, HasPaths, Handles, HandlesSome, Concludes};
@@ -14,6 +16,7 @@ use crate::texts::{say, say_bad};
 use jl_folder::Folder;
 use jl_lines::{LineReader, NextLine};
 use jl_streams::{Sink, Source};
+use jl_text::limits::MOST_LINE_BYTES;
 use std::alloc::Global;
 
 /// How the tracker ended.
@@ -27,9 +30,6 @@ pub enum Tracked {
     NoMemory,
 }
 
-// The longest line, with its newline.
-const LONGEST: u64 = 512;
-
 // Reports a resource that was left, and removes it.
 fn finish_one<F: Folder, E: Sink>(
     alloc: Global,
@@ -38,13 +38,8 @@ fn finish_one<F: Folder, E: Sink>(
     leaked: &Leaked,
 ) -> bool
     requires { IsRemovable leaked.now.kind leaked.now.name }
-    ensures plays { MatchBool result (Plays (F.told folder.old) (E.told err.old) (F.token folder.old) (reports_leaked leaked.now.kind leaked.now.name ∷ (removes leaked.now.kind leaked.now.name ∷ [])) (stage (F.history folder.old) (F.faults folder.old) (E.written err.old) (E.faults err.old)) (stage (F.history folder.new) (F.faults folder.new) (E.written err.new) (E.faults err.new))) (Stops (F.told folder.old) (E.told err.old) (F.token folder.old) (reports_leaked leaked.now.kind leaked.now.name ∷ (removes leaked.now.kind leaked.now.name ∷ [])) (stage (F.history folder.old) (F.faults folder.old) (E.written err.old) (E.faults err.old)) (stage (F.history folder.new) (F.faults folder.new) (E.written err.new) (E.faults err.new))) }
-    ensures folder_told { F.told folder.old → F.told folder.new }
-    ensures err_told { E.told err.old → E.told err.new }
-    ensures token { F.token folder.new ≡ F.token folder.old }
-    ensures opens { F.opens folder.new ≡ F.opens folder.old }
-    ensures folder_later { F.faults folder.old ≤ F.faults folder.new }
-    ensures err_later { E.faults err.old ≤ E.faults err.new }
+    ensures plays { PlaysOrStops result (reports_leaked leaked.now.kind leaked.now.name ∷ (removes leaked.now.kind leaked.now.name ∷ [])) (stage (F.view folder.old) (E.view err.old)) (stage (F.view folder.new) (E.view err.new)) }
+    ensures frame { StageKeeps (stage (F.view folder.old) (E.view err.old)) (stage (F.view folder.new) (E.view err.new)) }
 {
     if !say(alloc, err, "leaked", leaked.kind, leaked.name.as_str()) {
         return false;
@@ -60,13 +55,8 @@ fn finish_all<F: Folder, E: Sink>(
     err: &mut E,
 ) -> bool
     requires { AreRemovable (left_of counts.old) }
-    ensures plays { MatchBool result (Plays (F.told folder.old) (E.told err.old) (F.token folder.old) (end_effects counts.old) (stage (F.history folder.old) (F.faults folder.old) (E.written err.old) (E.faults err.old)) (stage (F.history folder.new) (F.faults folder.new) (E.written err.new) (E.faults err.new))) (Stops (F.told folder.old) (E.told err.old) (F.token folder.old) (end_effects counts.old) (stage (F.history folder.old) (F.faults folder.old) (E.written err.old) (E.faults err.old)) (stage (F.history folder.new) (F.faults folder.new) (E.written err.new) (E.faults err.new))) }
-    ensures folder_told { F.told folder.old → F.told folder.new }
-    ensures err_told { E.told err.old → E.told err.new }
-    ensures token { F.token folder.new ≡ F.token folder.old }
-    ensures opens { F.opens folder.new ≡ F.opens folder.old }
-    ensures folder_later { F.faults folder.old ≤ F.faults folder.new }
-    ensures err_later { E.faults err.old ≤ E.faults err.new }
+    ensures plays { PlaysOrStops result (end_effects counts.old) (stage (F.view folder.old) (E.view err.old)) (stage (F.view folder.new) (E.view err.new)) }
+    ensures frame { StageKeeps (stage (F.view folder.old) (E.view err.old)) (stage (F.view folder.new) (E.view err.new)) }
 {
     'left: while let Some(leaked) = counts.finish() {
         if !finish_one(alloc, folder, err, &leaked) {
@@ -102,13 +92,8 @@ fn handle<F: Folder, E: Sink>(
     number: u64,
 ) -> Option<Tracked>
     requires { AreRemovable (left_of counts.old) }
-    ensures cases { MatchOption result (Handles (F.told folder.old) (E.told err.old) (F.token folder.old) answer counts.old counts.new (stage (F.history folder.old) (F.faults folder.old) (E.written err.old) (E.faults err.old)) (stage (F.history folder.new) (F.faults folder.new) (E.written err.new) (E.faults err.new))) (λ end. Concludes (F.told folder.old) (E.told err.old) (F.token folder.old) end number answer counts.old (stage (F.history folder.old) (F.faults folder.old) (E.written err.old) (E.faults err.old)) (stage (F.history folder.new) (F.faults folder.new) (E.written err.new) (E.faults err.new))) }
-    ensures folder_told { F.told folder.old → F.told folder.new }
-    ensures err_told { E.told err.old → E.told err.new }
-    ensures token { F.token folder.new ≡ F.token folder.old }
-    ensures opens { F.opens folder.new ≡ F.opens folder.old }
-    ensures folder_later { F.faults folder.old ≤ F.faults folder.new }
-    ensures err_later { E.faults err.old ≤ E.faults err.new }
+    ensures cases { MatchOption result (Handles answer counts.old counts.new (stage (F.view folder.old) (E.view err.old)) (stage (F.view folder.new) (E.view err.new))) (λ end. Concludes end number answer counts.old (stage (F.view folder.old) (E.view err.old)) (stage (F.view folder.new) (E.view err.new))) }
+    ensures frame { StageKeeps (stage (F.view folder.old) (E.view err.old)) (stage (F.view folder.new) (E.view err.new)) }
 {
     match answer {
         NextLine::Line { no, bytes } => {
@@ -129,17 +114,12 @@ pub fn track<S: Source, F: Folder, E: Sink>(
     folder: &mut F,
     err: &mut E,
 ) -> Tracked
-    ensures tracks { Tracks (S.told source.old) (F.told folder.old) (E.told err.old) (F.token folder.old) (S.left source.old) (S.left source.new) (stage (F.history folder.old) (F.faults folder.old) (E.written err.old) (E.faults err.old)) (stage (F.history folder.new) (F.faults folder.new) (E.written err.new) (E.faults err.new)) result }
-    ensures faults { Faults (S.faults source.old) (S.faults source.new) (result ≡ Tracked.ReadFault) }
-    ensures source_told { S.told source.old → S.told source.new }
-    ensures folder_told { F.told folder.old → F.told folder.new }
-    ensures err_told { E.told err.old → E.told err.new }
-    ensures token { F.token folder.new ≡ F.token folder.old }
-    ensures opens { F.opens folder.new ≡ F.opens folder.old }
-    ensures folder_later { F.faults folder.old ≤ F.faults folder.new }
-    ensures err_later { E.faults err.old ≤ E.faults err.new }
+    ensures tracks { Tracks (S.view source.old) (S.view source.new) (stage (F.view folder.old) (E.view err.old)) (stage (F.view folder.new) (E.view err.new)) result }
+    ensures moves { (F.view folder.old).told → MovesAsked (S.view source.old) (F.view folder.old) (F.view folder.new) }
+    ensures source { SourceAnswers (result ≡ Tracked.ReadFault) (S.view source.old) (S.view source.new) }
+    ensures frame { StageKeeps (stage (F.view folder.old) (E.view err.old)) (stage (F.view folder.new) (E.view err.new)) }
 {
-    let mut reader = LineReader::new(alloc, LONGEST);
+    let mut reader = LineReader::new(alloc, MOST_LINE_BYTES);
     let mut counts = Counts::new(alloc);
     'lines: loop {
         let answer = reader.next(alloc, source);

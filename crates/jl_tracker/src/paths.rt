@@ -5,6 +5,7 @@ ghost use Rattle.jl_text.specs.Paths.{is_part as is_part_lem, pieces};
 ghost use Rattle.jl_tracker.specs.PathTexts.{behind_slash as behind_slash_lem, is_spelled};
 
 use jl_text::is_part;
+use jl_text::limits::MOST_PATH_BYTES;
 
 fn are_parts(text: &str) -> bool
     ensures { result ≡ list_all is_part_lem (pieces text.now) }
@@ -25,7 +26,7 @@ fn behind_slash(text: &str) -> &str
 pub fn is_path_text(text: &str) -> bool
     ensures { result ≡ is_spelled text.now }
 {
-    if text.len() > 4096 {
+    if text.len() > MOST_PATH_BYTES {
         return false;
     }
     if text == "." {

@@ -1,6 +1,10 @@
 // Removes files and folders.
-ghost use Rattle.std.specs.Prelude.{◌≡◌, ◌≤◌, ◌++◌, ◌∷◌, [], true, false, IsTrue, All, IfSome};
+ghost use Rattle.std.specs.Prelude.{◌≡◌, ◌++◌, ◌∷◌, [], true, false, IsTrue, All, IfSome};
 ghost use Rattle.jl_text.specs.Paths.{is_part, is_bad, path_of};
+ghost use Rattle.jl_folder.specs.Views.{FolderKeeps};
+ghost use Rattle.jl_rely.specs.Claims.{Moves};
+ghost use Rattle.jl_tracker.specs.Stages.{folder_point};
+ghost use Rattle.jl_tracker.specs.Taking.{TakesResource};
 ghost use Rattle.jl_tracker.specs.Tries.{FileTry, FolderTry, NameTry, NamesTry, ListedTry, RemovesTry, RemovalTry, IsRemovable};
 
 use crate::line::Kind;
@@ -16,11 +20,8 @@ pub enum Tried {
 }
 
 fn try_file<F: Folder>(folder: &mut F, path: &Path) -> Tried
-    ensures tries { F.told folder.old → FileTry (F.token folder.old) path.now result (F.history folder.old) (F.history folder.new) (F.faults folder.old) (F.faults folder.new) }
-    ensures told { F.told folder.old → F.told folder.new }
-    ensures token { F.token folder.new ≡ F.token folder.old }
-    ensures opens { F.opens folder.new ≡ F.opens folder.old }
-    ensures later { F.faults folder.old ≤ F.faults folder.new }
+    ensures tries { (F.view folder.old).told → FileTry path.now result (folder_point (F.view folder.old)) (folder_point (F.view folder.new)) }
+    ensures frame { FolderKeeps (F.view folder.old) (F.view folder.new) }
 {
     match folder.remove(path) {
         Removed::Done => Tried::Gone,
@@ -31,11 +32,8 @@ fn try_file<F: Folder>(folder: &mut F, path: &Path) -> Tried
 }
 
 fn try_folder<F: Folder>(folder: &mut F, path: &Path) -> Tried
-    ensures tries { F.told folder.old → FolderTry (F.token folder.old) path.now result (F.history folder.old) (F.history folder.new) (F.faults folder.old) (F.faults folder.new) }
-    ensures told { F.told folder.old → F.told folder.new }
-    ensures token { F.token folder.new ≡ F.token folder.old }
-    ensures opens { F.opens folder.new ≡ F.opens folder.old }
-    ensures later { F.faults folder.old ≤ F.faults folder.new }
+    ensures tries { (F.view folder.old).told → FolderTry path.now result (folder_point (F.view folder.old)) (folder_point (F.view folder.new)) }
+    ensures frame { FolderKeeps (F.view folder.old) (F.view folder.new) }
 {
     match folder.remove_dir(path) {
         RemovedDir::Done => Tried::Gone,
@@ -48,11 +46,8 @@ fn try_folder<F: Folder>(folder: &mut F, path: &Path) -> Tried
 
 // Tries to take a file away. Says whether there was memory.
 fn try_there<F: Folder>(folder: &mut F, path: &Path) -> bool
-    ensures tries { F.told folder.old → NameTry false (F.token folder.old) path.now result (F.history folder.old) (F.history folder.new) (F.faults folder.old) (F.faults folder.new) }
-    ensures told { F.told folder.old → F.told folder.new }
-    ensures token { F.token folder.new ≡ F.token folder.old }
-    ensures opens { F.opens folder.new ≡ F.opens folder.old }
-    ensures later { F.faults folder.old ≤ F.faults folder.new }
+    ensures tries { (F.view folder.old).told → NameTry false path.now result (folder_point (F.view folder.old)) (folder_point (F.view folder.new)) }
+    ensures frame { FolderKeeps (F.view folder.old) (F.view folder.new) }
 {
     match try_file(folder, path) {
         Tried::Gone => true,
@@ -64,11 +59,8 @@ fn try_there<F: Folder>(folder: &mut F, path: &Path) -> bool
 // The same of a file of a folder.
 fn try_part<F: Folder>(alloc: Global, folder: &mut F, path: &Path, part: &str) -> bool
     requires { IsTrue (is_part part.now) }
-    ensures tries { F.told folder.old → NameTry false (F.token folder.old) (path.now ++ part.now ∷ []) result (F.history folder.old) (F.history folder.new) (F.faults folder.old) (F.faults folder.new) }
-    ensures told { F.told folder.old → F.told folder.new }
-    ensures token { F.token folder.new ≡ F.token folder.old }
-    ensures opens { F.opens folder.new ≡ F.opens folder.old }
-    ensures later { F.faults folder.old ≤ F.faults folder.new }
+    ensures tries { (F.view folder.old).told → NameTry false (path.now ++ part.now ∷ []) result (folder_point (F.view folder.old)) (folder_point (F.view folder.new)) }
+    ensures frame { FolderKeeps (F.view folder.old) (F.view folder.new) }
 {
     match path.join(alloc, part) {
         Ok(file) => try_there(folder, &file),
@@ -79,11 +71,8 @@ fn try_part<F: Folder>(alloc: Global, folder: &mut F, path: &Path, part: &str) -
 // The same of a name; a folder is left alone.
 fn try_name<F: Folder>(alloc: Global, folder: &mut F, path: &Path, name: &Name) -> bool
     requires { IsTrue (is_part name.now.part) }
-    ensures tries { F.told folder.old → NameTry name.now.folder (F.token folder.old) (path.now ++ name.now.part ∷ []) result (F.history folder.old) (F.history folder.new) (F.faults folder.old) (F.faults folder.new) }
-    ensures told { F.told folder.old → F.told folder.new }
-    ensures token { F.token folder.new ≡ F.token folder.old }
-    ensures opens { F.opens folder.new ≡ F.opens folder.old }
-    ensures later { F.faults folder.old ≤ F.faults folder.new }
+    ensures tries { (F.view folder.old).told → NameTry name.now.folder (path.now ++ name.now.part ∷ []) result (folder_point (F.view folder.old)) (folder_point (F.view folder.new)) }
+    ensures frame { FolderKeeps (F.view folder.old) (F.view folder.new) }
 {
     if name.folder {
         return true;
@@ -94,11 +83,8 @@ fn try_name<F: Folder>(alloc: Global, folder: &mut F, path: &Path, name: &Name) 
 // Tries to take away each file of a list.
 fn try_names<F: Folder>(alloc: Global, folder: &mut F, path: &Path, names: &[Name]) -> bool
     requires { All (λ n. IsTrue (is_part n.part)) names.now }
-    ensures tries { F.told folder.old → NamesTry (F.token folder.old) path.now names.now result (F.history folder.old) (F.history folder.new) (F.faults folder.old) (F.faults folder.new) }
-    ensures told { F.told folder.old → F.told folder.new }
-    ensures token { F.token folder.new ≡ F.token folder.old }
-    ensures opens { F.opens folder.new ≡ F.opens folder.old }
-    ensures later { F.faults folder.old ≤ F.faults folder.new }
+    ensures tries { (F.view folder.old).told → NamesTry path.now names.now result (folder_point (F.view folder.old)) (folder_point (F.view folder.new)) }
+    ensures frame { FolderKeeps (F.view folder.old) (F.view folder.new) }
 {
     'names: for name in names {
         if !try_name(alloc, folder, path, name) {
@@ -111,11 +97,8 @@ fn try_names<F: Folder>(alloc: Global, folder: &mut F, path: &Path, names: &[Nam
 // Tries to take away each file of a list, and then the folder.
 fn try_listed<F: Folder>(alloc: Global, folder: &mut F, path: &Path, names: &[Name]) -> Tried
     requires { All (λ n. IsTrue (is_part n.part)) names.now }
-    ensures tries { F.told folder.old → ListedTry (F.token folder.old) path.now names.now result (F.history folder.old) (F.history folder.new) (F.faults folder.old) (F.faults folder.new) }
-    ensures told { F.told folder.old → F.told folder.new }
-    ensures token { F.token folder.new ≡ F.token folder.old }
-    ensures opens { F.opens folder.new ≡ F.opens folder.old }
-    ensures later { F.faults folder.old ≤ F.faults folder.new }
+    ensures tries { (F.view folder.old).told → ListedTry path.now names.now result (folder_point (F.view folder.old)) (folder_point (F.view folder.new)) }
+    ensures frame { FolderKeeps (F.view folder.old) (F.view folder.new) }
 {
     if !try_names(alloc, folder, path, names) {
         return Tried::NoMemory;
@@ -125,11 +108,8 @@ fn try_listed<F: Folder>(alloc: Global, folder: &mut F, path: &Path, names: &[Na
 
 // Removes the files of a folder, and then the folder.
 fn remove_folder<F: Folder>(alloc: Global, folder: &mut F, path: &Path) -> Tried
-    ensures tries { F.told folder.old → RemovesTry (F.token folder.old) path.now result (F.history folder.old) (F.history folder.new) (F.faults folder.old) (F.faults folder.new) }
-    ensures told { F.told folder.old → F.told folder.new }
-    ensures token { F.token folder.new ≡ F.token folder.old }
-    ensures opens { F.opens folder.new ≡ F.opens folder.old }
-    ensures later { F.faults folder.old ≤ F.faults folder.new }
+    ensures tries { (F.view folder.old).told → RemovesTry path.now result (folder_point (F.view folder.old)) (folder_point (F.view folder.new)) }
+    ensures frame { FolderKeeps (F.view folder.old) (F.view folder.new) }
 {
     match folder.list(path) {
         Listed::Names(names) => try_listed(alloc, folder, path, names.as_slice()),
@@ -152,11 +132,8 @@ fn read_path(alloc: Global, name: &str) -> Option<Path>
 
 fn remove_named_file<F: Folder>(alloc: Global, folder: &mut F, name: &str) -> Tried
     requires { is_bad name.now ≡ false }
-    ensures tries { F.told folder.old → RemovalTry (F.token folder.old) Kind.File name.now result (F.history folder.old) (F.history folder.new) (F.faults folder.old) (F.faults folder.new) }
-    ensures told { F.told folder.old → F.told folder.new }
-    ensures token { F.token folder.new ≡ F.token folder.old }
-    ensures opens { F.opens folder.new ≡ F.opens folder.old }
-    ensures later { F.faults folder.old ≤ F.faults folder.new }
+    ensures tries { (F.view folder.old).told → RemovalTry Kind.File name.now result (folder_point (F.view folder.old)) (folder_point (F.view folder.new)) }
+    ensures frame { FolderKeeps (F.view folder.old) (F.view folder.new) }
 {
     match read_path(alloc, name) {
         Some(path) => try_file(folder, &path),
@@ -166,11 +143,8 @@ fn remove_named_file<F: Folder>(alloc: Global, folder: &mut F, name: &str) -> Tr
 
 fn remove_named_folder<F: Folder>(alloc: Global, folder: &mut F, name: &str) -> Tried
     requires { is_bad name.now ≡ false }
-    ensures tries { F.told folder.old → RemovalTry (F.token folder.old) Kind.Folder name.now result (F.history folder.old) (F.history folder.new) (F.faults folder.old) (F.faults folder.new) }
-    ensures told { F.told folder.old → F.told folder.new }
-    ensures token { F.token folder.new ≡ F.token folder.old }
-    ensures opens { F.opens folder.new ≡ F.opens folder.old }
-    ensures later { F.faults folder.old ≤ F.faults folder.new }
+    ensures tries { (F.view folder.old).told → RemovalTry Kind.Folder name.now result (folder_point (F.view folder.old)) (folder_point (F.view folder.new)) }
+    ensures frame { FolderKeeps (F.view folder.old) (F.view folder.new) }
 {
     match read_path(alloc, name) {
         Some(path) => remove_folder(alloc, folder, &path),
@@ -181,11 +155,9 @@ fn remove_named_folder<F: Folder>(alloc: Global, folder: &mut F, name: &str) -> 
 /// Removes a resource. A semaphore is left alone.
 pub fn remove<F: Folder>(alloc: Global, folder: &mut F, kind: Kind, name: &str) -> Tried
     requires { IsRemovable kind name.now }
-    ensures tries { F.told folder.old → RemovalTry (F.token folder.old) kind name.now result (F.history folder.old) (F.history folder.new) (F.faults folder.old) (F.faults folder.new) }
-    ensures told { F.told folder.old → F.told folder.new }
-    ensures token { F.token folder.new ≡ F.token folder.old }
-    ensures opens { F.opens folder.new ≡ F.opens folder.old }
-    ensures later { F.faults folder.old ≤ F.faults folder.new }
+    ensures tries { (F.view folder.old).told → RemovalTry kind name.now result (folder_point (F.view folder.old)) (folder_point (F.view folder.new)) }
+    ensures moves { (F.view folder.old).told → Moves (TakesResource kind name.now) (F.view folder.old) (F.view folder.new) }
+    ensures frame { FolderKeeps (F.view folder.old) (F.view folder.new) }
     ensures semlock { kind ≡ Kind.Semlock → result ≡ Tried.Kept }
 {
     match kind {

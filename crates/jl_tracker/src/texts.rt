@@ -1,8 +1,10 @@
 // What the tracker writes.
-ghost use Rattle.std.specs.Prelude.{◌≡◌, ◌≤◌, ◌∷◌, [], true, false, IfOk, string_bytes, codes, MatchBool};
+ghost use Rattle.std.specs.Prelude.{◌≡◌, ◌∷◌, [], true, false, IfOk, string_bytes, codes, MatchBool};
+ghost use Rattle.jl_streams.specs.Views.{SinkKeeps};
 ghost use Rattle.jl_tracker.specs.TrackerLines.{word_of};
 ghost use Rattle.jl_tracker.specs.Effects.{about as about_lem, bad_text};
 ghost use Rattle.jl_tracker.specs.Plays.{Wrote};
+ghost use Rattle.jl_tracker.specs.Stages.{sink_point};
 
 use crate::line::Kind;
 use jl_streams::{Sink, WroteAll, write_all};
@@ -33,9 +35,8 @@ fn about_bad(alloc: Global, number: u64) -> Result<String, AllocError>
 
 // Writes a text. A write that fails is not told.
 fn put<E: Sink>(err: &mut E, text: &str)
-    ensures wrote { E.told err.old → Wrote text.now (E.written err.old) (E.written err.new) (E.faults err.old) (E.faults err.new) }
-    ensures told { E.told err.old → E.told err.new }
-    ensures later { E.faults err.old ≤ E.faults err.new }
+    ensures wrote { (E.view err.old).told → Wrote text.now (sink_point (E.view err.old)) (sink_point (E.view err.new)) }
+    ensures frame { SinkKeeps (E.view err.old) (E.view err.new) }
 {
     match write_all(err, text.as_bytes()) {
         WroteAll::Done => {}
@@ -45,9 +46,8 @@ fn put<E: Sink>(err: &mut E, text: &str)
 
 /// Writes a text about a resource. Says whether there was memory.
 pub fn say<E: Sink>(alloc: Global, err: &mut E, what: &str, kind: Kind, name: &str) -> bool
-    ensures wrote { MatchBool result (E.told err.old → Wrote (about_lem what.now kind name.now) (E.written err.old) (E.written err.new) (E.faults err.old) (E.faults err.new)) (err.new ≡ err.old) }
-    ensures told { E.told err.old → E.told err.new }
-    ensures later { E.faults err.old ≤ E.faults err.new }
+    ensures wrote { MatchBool result ((E.view err.old).told → Wrote (about_lem what.now kind name.now) (sink_point (E.view err.old)) (sink_point (E.view err.new))) (err.new ≡ err.old) }
+    ensures frame { SinkKeeps (E.view err.old) (E.view err.new) }
 {
     match about(alloc, what, kind, name) {
         Ok(text) => {
@@ -60,9 +60,8 @@ pub fn say<E: Sink>(alloc: Global, err: &mut E, what: &str, kind: Kind, name: &s
 
 /// Writes the text about a bad line. Says whether there was memory.
 pub fn say_bad<E: Sink>(alloc: Global, err: &mut E, number: u64) -> bool
-    ensures wrote { MatchBool result (E.told err.old → Wrote (bad_text number) (E.written err.old) (E.written err.new) (E.faults err.old) (E.faults err.new)) (err.new ≡ err.old) }
-    ensures told { E.told err.old → E.told err.new }
-    ensures later { E.faults err.old ≤ E.faults err.new }
+    ensures wrote { MatchBool result ((E.view err.old).told → Wrote (bad_text number) (sink_point (E.view err.old)) (sink_point (E.view err.new))) (err.new ≡ err.old) }
+    ensures frame { SinkKeeps (E.view err.old) (E.view err.new) }
 {
     match about_bad(alloc, number) {
         Ok(text) => {

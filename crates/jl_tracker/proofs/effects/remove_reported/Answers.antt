@@ -8,10 +8,16 @@ apart : tried.Gone ≡ tried.Kept → ⊥
 apart e = cc
 
 pub returns-in-Gone-clause-plays : goal.returns-in-Gone-clause-plays
-returns-in-Gone-clause-plays g c = gone_plays _ _ _ c.args.kind c.args.name.now _ _ _ _ _ _ c.in-Gone.ensures.tries (λ e. apart (c.in-Gone.ensures.semlock e))
+returns-in-Gone-clause-plays g c =
+    let view = g.F.Folder.view in
+    gone_plays c.args.kind c.args.name.now (view c.args.folder.now) (view c.remove.new.folder) (g.E.Sink.view c.args.err.now) c.in-Gone.ensures.tries (λ e. apart (c.in-Gone.ensures.semlock e))
 
 pub returns-in-Kept-clause-plays : goal.returns-in-Kept-clause-plays
-returns-in-Kept-clause-plays g c = kept_ends _ _ _ (removes c.args.kind c.args.name.now) g.E.Sink.written g.E.Sink.faults c.args.err.now c.say_kept.new.err _ _ _ _ c.say_kept.result c.say_kept.ensures.wrote c.in-Kept.ensures.tries (λ t. inr (c.in-Kept.ensures.tries t))
+returns-in-Kept-clause-plays g c =
+    let view = g.F.Folder.view in
+    kept_ends (removes c.args.kind c.args.name.now) g.E.Sink.view c.args.err.now c.say_kept.new.err (view c.args.folder.now) (view c.remove.new.folder) c.say_kept.result c.say_kept.ensures.wrote c.in-Kept.ensures.tries (λ t. inr (c.in-Kept.ensures.tries t))
 
 pub returns-in-NoMemory-clause-plays : goal.returns-in-NoMemory-clause-plays
-returns-in-NoMemory-clause-plays g c = cut_stops _ _ _ (removes c.args.kind c.args.name.now) _ _ _ _ _ _ (λ t. inl (c.in-NoMemory.ensures.tries t))
+returns-in-NoMemory-clause-plays g c =
+    let view = g.F.Folder.view in
+    cut_stops (removes c.args.kind c.args.name.now) (view c.args.folder.now) (view c.remove.new.folder) (g.E.Sink.view c.args.err.now) (λ t. inl (c.in-NoMemory.ensures.tries t))

@@ -8,8 +8,10 @@ pub take_good-requires : goal.take_good-requires
 take_good-requires g c = said_removable c.args.bytes.now (view_of c.in-Ok.line) c.in-Ok.ensures.read
 
 pub returns-in-Ok-clause-plays : goal.returns-in-Ok-clause-plays
-returns-in-Ok-clause-plays g c = line_ends _ _ _ c.args.number c.args.bytes.now (view_of c.in-Ok.line) c.args.counts.now c.take_good.new.counts c.take_good.result _ _ c.in-Ok.ensures.read c.take_good.ensures.plays
+returns-in-Ok-clause-plays g c = line_ends c.args.number c.args.bytes.now (view_of c.in-Ok.line) c.args.counts.now c.take_good.new.counts c.take_good.result _ _ c.in-Ok.ensures.read c.take_good.ensures.plays
 
 pub returns-in-Err-clause-plays : goal.returns-in-Err-clause-plays
-returns-in-Err-clause-plays g c = bad_ends _ _ _ c.args.number c.args.bytes.now c.args.counts.now c.say_bad.result _ _ c.in-Err.ensures.read
-    (kept_ends _ _ _ (reports_bad c.args.number) g.E.Sink.written g.E.Sink.faults c.args.err.now c.say_bad.new.err _ _ _ _ c.say_bad.result c.say_bad.ensures.wrote (λ t. (refl, refl)) (λ t. (refl, refl)))
+returns-in-Err-clause-plays g c =
+    let folder = g.F.Folder.view c.args.folder.now in
+    bad_ends c.args.number c.args.bytes.now c.args.counts.now c.say_bad.result _ _ c.in-Err.ensures.read
+    (kept_ends (reports_bad c.args.number) g.E.Sink.view c.args.err.now c.say_bad.new.err folder folder c.say_bad.result c.say_bad.ensures.wrote (λ t. refl) (λ t. refl))

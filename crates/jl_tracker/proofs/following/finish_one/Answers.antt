@@ -1,7 +1,8 @@
 use Rattle.std.proofs.Common.{◌∷◌, [], true, false, refl, subst}
-use Rattle.std.specs.Bool.{MatchBool}
-use Rattle.jl_tracker.specs.Plays.{Plays, Stops, Wrote, stage}
+use Rattle.jl_folder.proofs.Frames.{keeps_none}
 use Rattle.jl_tracker.specs.Effects.{reports_leaked, removes, text_of}
+use Rattle.jl_tracker.specs.Plays.{Wrote, PlaysOrStops}
+use Rattle.jl_tracker.specs.Stages.{stage, sink_point}
 use Rattle.jl_tracker.proofs.PlayLemmas.{kept_ends, stops_before, ends_then}
 use Rattle.jl_tracker.proofs.following.finish_one.Goals as goal
 
@@ -9,15 +10,22 @@ pub returns-then-not-say-clause-plays : goal.returns-then-not-say-clause-plays
 returns-then-not-say-clause-plays g c =
     let k = c.args.leaked.now.kind in
     let name = c.args.leaked.now.name in
-    stops_before _ _ _ (reports_leaked k name ∷ []) (removes k name ∷ []) _ _
-    (kept_ends _ _ _ (reports_leaked k name) g.E.Sink.written g.E.Sink.faults c.args.err.now c.say.new.err _ _ _ _ false c.if-not-say.ensures.wrote (λ t. (refl, refl)) (λ t. (refl, refl)))
+    let folder = g.F.Folder.view c.args.folder.now in
+    let err = g.E.Sink.view in
+    stops_before (reports_leaked k name ∷ []) (removes k name ∷ []) (stage folder (err c.args.err.now)) (stage folder (err c.say.new.err))
+    (kept_ends (reports_leaked k name) err c.args.err.now c.say.new.err folder folder false c.if-not-say.ensures.wrote (λ t. refl) (λ t. refl))
 
 pub returns-clause-plays : goal.returns-clause-plays
 returns-clause-plays g c =
-    let F = g.F.Folder in
-    let E = g.E.Sink in
+    let folder = g.F.Folder.view in
+    let err = g.E.Sink.view in
     let k = c.args.leaked.now.kind in
     let name = c.args.leaked.now.name in
-    ends_then (F.told c.args.folder.now) (F.told c.args.folder.now) (E.told c.args.err.now) (E.told c.say.new.err) (F.token c.args.folder.now) (F.token c.args.folder.now) (reports_leaked k name ∷ []) (removes k name ∷ []) _ _ _ c.remove_reported.result (λ t. t) c.say.ensures.told refl
-    (kept_ends (F.told c.args.folder.now) (E.told c.args.err.now) (F.token c.args.folder.now) (reports_leaked k name) E.written E.faults c.args.err.now c.say.new.err (F.history c.args.folder.now) (F.history c.args.folder.now) (F.faults c.args.folder.now) (F.faults c.args.folder.now) true (λ t. subst (λ n. Wrote (text_of (reports_leaked k n) false) (E.written c.args.err.now) (E.written c.say.new.err) (E.faults c.args.err.now) (E.faults c.say.new.err)) c.as_str.ensures (c.if-not-say.ensures.wrote t)) (λ t. (refl, refl)) (λ t. (refl, refl)))
-    (subst (λ n. MatchBool c.remove_reported.result (Plays (F.told c.args.folder.now) (E.told c.say.new.err) (F.token c.args.folder.now) (removes k n ∷ []) (stage (F.history c.args.folder.now) (F.faults c.args.folder.now) (E.written c.say.new.err) (E.faults c.say.new.err)) (stage (F.history c.remove_reported.new.folder) (F.faults c.remove_reported.new.folder) (E.written c.remove_reported.new.err) (E.faults c.remove_reported.new.err))) (Stops (F.told c.args.folder.now) (E.told c.say.new.err) (F.token c.args.folder.now) (removes k n ∷ []) (stage (F.history c.args.folder.now) (F.faults c.args.folder.now) (E.written c.say.new.err) (E.faults c.say.new.err)) (stage (F.history c.remove_reported.new.folder) (F.faults c.remove_reported.new.folder) (E.written c.remove_reported.new.err) (E.faults c.remove_reported.new.err)))) c.as_str-2.ensures c.remove_reported.ensures.plays)
+    let here = folder c.args.folder.now in
+    let a = stage here (err c.args.err.now) in
+    let m = stage here (err c.say.new.err) in
+    let b = stage (folder c.remove_reported.new.folder) (err c.remove_reported.new.err) in
+    ends_then (reports_leaked k name ∷ []) (removes k name ∷ []) a m b c.remove_reported.result
+    (record { folder = keeps_none here; err = c.say.ensures.frame })
+    (kept_ends (reports_leaked k name) err c.args.err.now c.say.new.err here here true (λ t. subst (λ n. Wrote (text_of (reports_leaked k n) false) (sink_point (err c.args.err.now)) (sink_point (err c.say.new.err))) c.as_str.ensures (c.if-not-say.ensures.wrote t)) (λ t. refl) (λ t. refl))
+    (subst (λ n. PlaysOrStops c.remove_reported.result (removes k n ∷ []) m b) c.as_str-2.ensures c.remove_reported.ensures.plays)

@@ -1,14 +1,13 @@
-use Rattle.std.proofs.Common.{◌≡◌, ◌≤◌, take}
+use Rattle.std.proofs.Common.{take}
+use Rattle.jl_folder.specs.Views.{FolderKeeps}
+use Rattle.jl_tracker.specs.Stages.{folder_point}
 use Rattle.jl_tracker.specs.Removing.{TriedNames}
 use Rattle.jl_tracker.proofs.removing.try_names.Given as goal
 
 abbrev pub invariant-names : goal.invariant-names
 invariant-names g l =
-    let F = g.F.Folder in
+    let view = g.F.Folder.view in
     record {
-      told : F.told l.initial.folder → F.told l.folder;
-      token : F.token l.folder ≡ F.token l.initial.folder;
-      opens : F.opens l.folder ≡ F.opens l.initial.folder;
-      later : F.faults l.initial.folder ≤ F.faults l.folder;
-      tried : F.told l.initial.folder → TriedNames (F.token l.initial.folder) l.path (take l.name-index l.names) (F.history l.initial.folder) (F.history l.folder) (F.faults l.initial.folder) (F.faults l.folder);
+      frame : FolderKeeps (view l.initial.folder) (view l.folder);
+      tried : (view l.initial.folder).told → TriedNames l.path (take l.name-index l.names) (folder_point (view l.initial.folder)) (folder_point (view l.folder));
     }

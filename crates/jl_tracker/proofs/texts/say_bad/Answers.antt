@@ -1,7 +1,8 @@
 use Rattle.std.proofs.Common.{subst, ◌∙◌}
 use Rattle.jl_tracker.specs.Plays.{Wrote}
+use Rattle.jl_tracker.specs.Stages.{sink_point}
 use Rattle.jl_tracker.proofs.texts.say_bad.Goals as goal
 
 pub returns-in-Ok-clause-wrote : goal.returns-in-Ok-clause-wrote
 returns-in-Ok-clause-wrote g c = λ t.
-    subst (λ text. Wrote text (g.E.Sink.written c.args.err.now) (g.E.Sink.written c.put.new.err) (g.E.Sink.faults c.args.err.now) (g.E.Sink.faults c.put.new.err)) (c.as_str.ensures.value ∙ c.in-Ok.ensures) (c.put.ensures.wrote t)
+    subst (λ text. Wrote text (sink_point (g.E.Sink.view c.args.err.now)) (sink_point (g.E.Sink.view c.put.new.err))) (c.as_str.ensures.value ∙ c.in-Ok.ensures) (c.put.ensures.wrote t)
