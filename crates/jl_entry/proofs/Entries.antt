@@ -1,5 +1,5 @@
 -- What an entry's bytes are read as, and where its parts stand.
-use Rattle.std.proofs.Common.{◌≡◌, ℕ, zero, suc, ◌<◌, ◌≤◌, pos, List, [], ◌∷◌, map, length, get_or, IsUtf8, bytes_eq, Bool, not, true, false, refl, sym, ap, ◌∙◌, subst, arith}
+use Rattle.std.proofs.Common.{◌≡◌, ℕ, zero, suc, ◌<◌, ◌≤◌, pos, List, [], ◌∷◌, ◌++◌, map, length, get_or, IsUtf8, bytes_eq, Bool, not, true, false, refl, sym, ap, ◌∙◌, subst, arith}
 use Rattle.std.specs.Prelude.{Ok, Err}
 use Rattle.std.proofs.lemmas.Slice.Eq.{bytes_eq-Decides}
 use Rattle.std.specs.List.Sorted.{IsStrictlySortedBy}
@@ -83,7 +83,7 @@ members_in (table ms) = ms
 members_in (numbers zs) = no_members
 
 -- the trees of keys and values
-abbrev trees : List (List ℕ × Value) → List Tree
+abbrev pub trees : List (List ℕ × Value) → List Tree
 trees es = map (λ e. tree_of e.1) es
 
 -- they are the values of the members
@@ -125,6 +125,16 @@ module _ (v : Value) (ps : Args) (is : v ≡ Table ps) (es : List (List ℕ × V
   part_at i e h at =
       let len = four in
       ap (λ d. tree_of d.1) at ∙ sym (trees_at es i e (omega arith)) ∙ ap (λ ts. get_or ts i (tree_of e.1)) parts_are
+
+-- of four values the last stands at the end
+pub last_of : (es : List (List ℕ × Value)) (a b d t : Tree) → trees es ≡ a ∷ b ∷ d ∷ t ∷ []
+    → (before : List (List ℕ × Value)) × (last : List ℕ × Value) × (es ≡ before ++ last ∷ []) × (tree_of last.1 ≡ t)
+last_of [] a b d t e = absurd (cc)
+last_of (x ∷ []) a b d t e = absurd (cc)
+last_of (x ∷ y ∷ []) a b d t e = absurd (cc)
+last_of (x ∷ y ∷ z ∷ []) a b d t e = absurd (cc)
+last_of (x ∷ y ∷ z ∷ w ∷ []) a b d t e = (x ∷ y ∷ z ∷ [], w, refl, cc)
+last_of (x ∷ y ∷ z ∷ w ∷ u ∷ es) a b d t e = absurd (cc)
 
 -- a part nests less deep than the table
 at_nesting : (es : List (List ℕ × Value)) (i : ℕ) (d : List ℕ × Value) → i < length es → nesting (tree_of (get_or es i d).1) ≤ members_nesting (members_of (entries_of es))

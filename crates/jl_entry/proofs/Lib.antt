@@ -4,6 +4,7 @@ pub mod DecimalEnds
 pub mod CodeFacts
 pub mod MomentFacts
 pub mod NameFacts
+pub mod Heads
 pub mod KeyFacts
 pub mod TempFacts
 pub mod PartLemmas

@@ -1,10 +1,12 @@
 -- The text of a cache entry.
-use Rattle.std.specs.Prelude.{◌≡◌, ◌≤◌, ℕ, pos, List, Option, MatchOption, codes, ⊤}
+use Rattle.std.specs.Prelude.{◌≡◌, ◌≤◌, ℕ, pos, List, ◌++◌, Option, MatchOption, codes, ⊤, IsUtf8}
+use Rattle.json.specs.Print.{quoted}
 use Rattle.jl_value.specs.Tree.{Tree, whole, text, table, no_members, member, nesting}
 use Rattle.jl_value.specs.Canonical.{text_of}
 use Rattle.jl_value.specs.Form.{tree_of}
 use Rattle.jl_value.specs.Key.{args_tree}
 use Rattle.jl_value.specs.Proper.{IsProper}
+use Rattle.jl_value.specs.declared.value.Value.{Value as V}
 use Rattle.jl_entry.specs.declared.output.Parts.{Parts}
 use Rattle.jl_entry.specs.declared.output.ReadOutput.{ReadOutput}
 use Rattle.jl_entry.specs.declared.output.ReadOutput.TheVariants.{Value, NotMine, Damaged, NoMemory}
@@ -29,6 +31,10 @@ value_key = codes "value"
 abbrev pub Members : Type 0
 Members = List (List ℕ × Tree)
 
+-- a key and its value
+abbrev pub Entry : Type 0
+Entry = List ℕ × V
+
 -- the table of an entry: its arguments, its code, the format 1 and its value
 abbrev pub entry_tree : List ℕ → Members → Tree → Tree
 entry_tree code ps t = table (member args_key (args_tree ps) (member code_key (text code) (member format_key (whole (pos 1)) (member value_key t no_members))))
@@ -48,6 +54,16 @@ code_piece = codes ",\"code\":"
 -- the text before the value: `,"format":1,"value":`
 abbrev pub value_piece : List ℕ
 value_piece = codes ",\"format\":1,\"value\":"
+
+-- what an entry of this code and of arguments with this text begins with, up to its value
+abbrev pub head_text : List ℕ → List ℕ → List ℕ
+head_text code args = (((first_piece ++ args) ++ code_piece) ++ quoted code) ++ value_piece
+
+-- a text is the head of the entries of this code and these arguments
+pub record IsHeadOf (head code : List ℕ) (ps : Members) : Type 0 where
+  pub text : head ≡ head_text code (text_of (args_tree ps))
+  pub coded : IsUtf8 code
+  pub proper : IsProper (args_tree ps)
 
 -- the bytes are the entry of this code, these arguments and this value, which a reader 70 deep reads
 pub record IsEntryOf (bytes code : List ℕ) (ps : Members) (t : Tree) : Type 0 where

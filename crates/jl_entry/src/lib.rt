@@ -16,6 +16,6 @@ pub use moments::{Metadata, read_access, read_metadata, write_access, write_meta
 pub use names::{
     EntryFile, code_file, entry_file, entry_folder, function_folder, module_folder, root,
 };
-pub use output::{ReadOutput, read_output, write_output};
+pub use output::{ReadOutput, entry_head, read_entry, read_output, write_output};
 pub use parts::{is_code_name, is_entry_name, is_key_name};
 pub use temp::temp_name;

@@ -1,11 +1,12 @@
 // The text of a cache entry.
-ghost use Rattle.std.specs.Prelude.{◌≡◌, ◌≤◌, ℕ, List, [], ◌∷◌, ◌++◌, IfOk, OnOk, MatchOption, IfSome, ◌<◌, string_bytes};
+ghost use Rattle.std.specs.Prelude.{◌≡◌, ◌≤◌, ℕ, List, [], ◌∷◌, ◌++◌, IfOk, OnOk, MatchOption, IfSome, ◌<◌, string_bytes, bytes_eq};
 ghost use Rattle.json.specs.Print.{quoted as quoted_of};
 ghost use Rattle.jl_value.specs.Tree.{Tree, nesting};
 ghost use Rattle.jl_value.specs.Form.{tree_of};
 ghost use Rattle.jl_value.specs.Proper.{IsProper};
 ghost use Rattle.jl_value.specs.Key.{args_tree};
-ghost use Rattle.jl_entry.specs.Entry.{IsEntryOf, entry_tree, FindsParts, entry_text, first_piece, code_piece, value_piece, IsOutput};
+ghost use Rattle.jl_entry.specs.Entry.{IsEntryOf, entry_tree, FindsParts, entry_text, head_text, IsHeadOf, Members, Entry, IsOutput};
+ghost use Rattle.jl_value.specs.Canonical.{text_of};
 
 use jl_text::{Bytes, Text};
 use jl_value::{Args, Table, Value, ValueFault, canonical, canonical_table, read_value};
@@ -44,26 +45,31 @@ fn entry(alloc: Global, code: &str, args: &Table, value: &Value) -> Result<Strin
     ensures proper { OnOk result (IsProper (entry_tree code.now args.now (tree_of value.now))) }
 {
     let args_text = canonical_table(alloc, args)?;
-    let code_text = quoted(alloc, code)?;
+    let head = entry_head(alloc, code, args_text.as_str())?;
     let value_text = canonical(alloc, value)?;
-    joined(
-        alloc,
-        args_text.as_str(),
-        code_text.as_str(),
-        value_text.as_str(),
-    )
+    closed(alloc, head.as_str(), value_text.as_str())
 }
 
-fn joined(alloc: Global, args: &str, code: &str, value: &str) -> Result<String, AllocError>
-    ensures { IfOk result (λ s. string_bytes s
-        ≡ (((((first_piece ++ args.now) ++ code_piece) ++ code.now) ++ value_piece) ++ value.now) ++ 125 ∷ []) }
+/// What each entry of a code and of arguments with this canonical text begins with, up to its value.
+pub fn entry_head(alloc: Global, code: &str, args_text: &str) -> Result<Text, AllocError>
+    ensures { IfOk result (λ t. t ≡ head_text code.now args_text.now) }
 {
+    let code_text = quoted(alloc, code)?;
     let mut out = String::new(alloc);
     put(&mut out, "{\"args\":")?;
-    put(&mut out, args)?;
+    put(&mut out, args_text)?;
     put(&mut out, ",\"code\":")?;
-    put(&mut out, code)?;
+    put(&mut out, code_text.as_str())?;
     put(&mut out, ",\"format\":1,\"value\":")?;
+    Ok(Text::new(out))
+}
+
+// An entry's text, from its head and the text of its value.
+fn closed(alloc: Global, head: &str, value: &str) -> Result<String, AllocError>
+    ensures { IfOk result (λ s. string_bytes s ≡ (head.now ++ value.now) ++ 125 ∷ []) }
+{
+    let mut out = String::new(alloc);
+    put(&mut out, head)?;
     put(&mut out, value)?;
     put(&mut out, "}")?;
     Ok(out)
@@ -89,6 +95,19 @@ fn quoted(alloc: Global, code: &str) -> Result<Text, AllocError>
 pub fn read_output(alloc: Global, code: &str, args: &Args, bytes: &[u8]) -> ReadOutput
     ensures { IsOutput result bytes.now code.now args.now }
 {
+    let Ok(args_text) = canonical_table(alloc, args.value()) else {
+        return ReadOutput::NoMemory;
+    };
+    let Ok(head) = entry_head(alloc, code, args_text.as_str()) else {
+        return ReadOutput::NoMemory;
+    };
+    read_entry(alloc, head.as_str(), bytes)
+}
+
+/// The same for the code and the arguments whose entries begin with this head.
+pub fn read_entry(alloc: Global, head: &str, bytes: &[u8]) -> ReadOutput
+    ensures { (code : List ℕ) (ps : Members) → IsHeadOf head.now code ps → IsOutput result bytes.now code ps }
+{
     let whole = match read_value(alloc, bytes, 70) {
         Ok(whole) => whole,
         Err(fault) => match fault {
@@ -105,15 +124,48 @@ pub fn read_output(alloc: Global, code: &str, args: &Args, bytes: &[u8]) -> Read
     if text.as_bytes() != bytes {
         return ReadOutput::Damaged;
     }
-    let Ok(mine) = entry(alloc, code, args.value(), found.value) else {
-        return ReadOutput::NoMemory;
-    };
-    if mine.as_bytes() != bytes {
-        return ReadOutput::NotMine;
+    match is_mine(alloc, head, found.value, bytes) {
+        Ok(true) => {}
+        Ok(false) => return ReadOutput::NotMine,
+        Err(_) => return ReadOutput::NoMemory,
     }
-    match found.value.copy(alloc) {
-        Ok(value) => ReadOutput::Value(value),
-        Err(_) => ReadOutput::NoMemory,
+    match last_value(whole) {
+        Some(value) => ReadOutput::Value(value),
+        None => ReadOutput::Damaged,
+    }
+}
+
+// Whether the bytes are this head with the value behind it.
+fn is_mine(alloc: Global, head: &str, value: &Value, bytes: &[u8]) -> Result<bool, AllocError>
+    ensures same { IfOk result (λ b. b ≡ bytes_eq ((head.now ++ text_of (tree_of value.now)) ++ 125 ∷ []) bytes.now) }
+    ensures proper { OnOk result (IsProper (tree_of value.now)) }
+{
+    let value_text = canonical(alloc, value)?;
+    let mine = closed(alloc, head, value_text.as_str())?;
+    Ok(mine.as_bytes() == bytes)
+}
+
+// The value of an entry, which is its last member.
+fn last_value(whole: Value) -> Option<Value>
+    ensures { (code : List ℕ) (ps : Members) (t : Tree) → tree_of whole ≡ entry_tree code ps t → MatchOption result ⊥ (λ v. tree_of v ≡ t) }
+{
+    match whole {
+        Value::Table(table) => last_member(table.into_vec()),
+        other => {
+            drop(other);
+            None
+        }
+    }
+}
+
+// The value of the last member.
+fn last_member(members: Vec<(Text, Value)>) -> Option<Value>
+    ensures { (before : List Entry) (last : Entry) (t : Tree) → members.items ≡ before ++ last ∷ [] → tree_of last.1 ≡ t → MatchOption result ⊥ (λ v. tree_of v ≡ t) }
+{
+    let mut members = members;
+    match members.pop() {
+        Some((_, value)) => Some(value),
+        None => None,
     }
 }
 

@@ -1,4 +1,4 @@
-use Rattle.std.proofs.Common.{[], ◌∷◌, Some, None, true≢false, sym, ap, ◌∙◌}
+use Rattle.std.proofs.Common.{[], ◌∷◌, Some, None, true≢false, sym, ◌∙◌}
 use Rattle.std.proofs.lemmas.Slice.Eq.{strip_prefix_is}
 use Rattle.std.proofs.lemmas.Bool.Decides.{Decides-eqb}
 use Rattle.jl_entry.specs.Names.{suffix}
