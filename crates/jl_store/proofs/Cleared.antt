@@ -1,19 +1,23 @@
 -- What clearing the entries of a function does and leaves, as checking its code tells of it.
-use Rattle.std.proofs.Common.{ℕ, List, [], ◌∷◌, ◌++◌}
+use Rattle.std.proofs.Common.{◌≡◌, [], ◌∷◌, ◌++◌}
 use Rattle.jl_text.specs.Paths.{PathView}
 use Rattle.jl_folder.specs.declared.moves.Move.{Move}
 use Rattle.jl_folder.specs.declared.moves.Move.TheVariants.{MakeDir, Create, Append, Rename, Remove, RemoveDir}
-use Rattle.jl_folder.specs.State.{State, History, Opens, now, since}
+use Rattle.jl_folder.specs.State.{State}
+use Rattle.jl_folder.specs.Views.{FolderView, state, moved}
 use Rattle.jl_entry.specs.Names.{IsBelow, IsFunctionFolder}
 use Rattle.jl_rely.specs.Steps.{IsLone}
-use Rattle.jl_rely.specs.Claims.{Anywhere}
+use Rattle.jl_rely.specs.Claims.{Anywhere, Moves}
+use Rattle.jl_rely.proofs.Moving.{moves_as}
 use Rattle.jl_protocol.specs.Tidy.{IsTidy}
-use Rattle.jl_clear.specs.Doing.{Does}
 use Rattle.jl_clear.specs.Taking.{IsTaking, IsTakenAway}
 use Rattle.jl_clear.specs.Clearing.{IsOfEntries, Clears}
-use Rattle.jl_clear.proofs.DoingLemmas.{does_as}
+use Rattle.jl_clear.specs.Cleared.{ClearsPaths}
+use Rattle.jl_clear.specs.declared.removing.Clear.{Clear}
+use Rattle.jl_clear.specs.declared.removing.Clear.TheVariants.{Cleared}
+use Rattle.jl_clear.proofs.Paths.{below_then, entries_below}
 use Rattle.jl_clear.proofs.Folders.{entry_in, entry_file, entry_itself}
-use Rattle.jl_clear.proofs.Thinning.{taken_away}
+use Rattle.jl_clear.proofs.Claims.{claims}
 use Rattle.jl_store.specs.Doing.{IsEmptying, IsClearing}
 use Rattle.jl_store.specs.Alone.{HasNoEntries}
 
@@ -34,9 +38,17 @@ no_entries function s t away = record {
   beside = λ p apart. away.beside p (λ of. apart (of.0, of.1.0, of.1.1));
 }
 
-module _ {D : Type 0} (token : D → List ℕ) (told : D → Type 0) (history : D → History) (opens : D → Opens) (faults : D → ℕ) (root function : PathView) (Done Failed : Type 0) (old new : D) (a : Clears token told history opens faults root Anywhere (IsOfEntries function) (IsOfEntries function) Done Failed old new) where
-  pub cleared_does : IsFunctionFolder root function → Does token told history opens faults (IsClearing function) old new
-  cleared_does fun = does_as token told history opens faults (IsTaking root (IsOfEntries function)) (IsClearing function) (taking_clears root function fun) old new a.does
+-- they stand below the root
+in_root : (root function : PathView) → IsFunctionFolder root function → (p : PathView) → IsOfEntries function p → IsBelow root p
+unfolding IsBelow
+in_root root function fun p of = below_then root function p ((fun.0 ∷ fun.1 ∷ []), fun.4) (entries_below function p of)
 
-  pub cleared_alone : told old → Done → IsLone (token old) (since (history old) (history new)) → IsTidy root (now (history old)) → HasNoEntries function (now (history old)) (now (history new))
-  cleared_alone t done lone tidy = no_entries function (now (history old)) (now (history new)) (taken_away (IsOfEntries function) (now (history old)) (now (history new)) (a.alone t done lone tidy tt))
+module _ (root function : PathView) (fun : IsFunctionFolder root function) (answer : Clear) (old new : FolderView) (a : Clears root Anywhere (IsOfEntries function) (IsOfEntries function) (IsOfEntries function) answer old new) where
+  pub cleared_moves : old.told → Moves (IsClearing function) old new
+  cleared_moves t = moves_as (IsTaking root (IsOfEntries function)) (IsClearing function) (taking_clears root function fun) old new (a.moves t)
+
+  claims_here : old.told → IsTidy root (state old) → ClearsPaths root (IsOfEntries function) answer old new
+  claims_here t tidy = claims root (IsOfEntries function) answer old new a t tidy.state (in_root root function fun)
+
+  pub cleared_alone : answer ≡ Cleared → old.told → IsLone old.token (moved old new) → IsTidy root (state old) → HasNoEntries function (state old) (state new)
+  cleared_alone done t lone tidy = no_entries function (state old) (state new) ((claims_here t tidy).tidy done lone tidy)

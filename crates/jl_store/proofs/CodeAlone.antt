@@ -1,20 +1,18 @@
 -- What storing and checking a code leave where no other moved.
-use Rattle.std.proofs.Common.{◌≡◌, ◌⊎◌, inl, inr, ℕ, ◌<◌, List, [], ◌∷◌, ◌++◌, Some, false, option_map, length, refl, sym, ap, subst, ◌∙◌, arith, append_assoc, append-nil, length-append}
+use Rattle.std.proofs.Common.{◌≡◌, ◌⊎◌, inl, inr, ℕ, List, [], ◌∷◌, ◌++◌, Some, false, option_map, length, refl, sym, ap, subst, ◌∙◌, arith, append_assoc, append-nil, length-append}
 use Rattle.std.specs.Prelude.{IsTrue}
 use Rattle.std.specs.Option.{option_map_or}
 use Rattle.jl_text.specs.Paths.{PathView}
 use Rattle.jl_text.specs.Texts.{is_name}
 use Rattle.jl_folder.specs.declared.moves.Node.{Node}
 use Rattle.jl_folder.specs.declared.moves.Move.{Move}
-use Rattle.jl_folder.specs.State.{State, Trace, History, place_at, node_at, bytes_of, is_file, is_folder_place, now, since, after, run}
+use Rattle.jl_folder.specs.State.{State, Trace, place_at, node_at, bytes_of, is_file, is_folder_place, after, run}
+use Rattle.jl_folder.specs.Views.{FolderView, state, moved}
 use Rattle.jl_folder.specs.Calls.{Waits}
-use Rattle.jl_folder.specs.Reading.{IsUnwritten}
-use Rattle.jl_entry.specs.Codes.{IsSameCode}
 use Rattle.jl_entry.specs.Names.{code_of, IsFinal, IsTemp, IsStoreFolder, code_part, suffix, IsFunctionFolder}
 use Rattle.jl_entry.proofs.NameFacts.{final_not_folder, temp_not_folder}
 use Rattle.jl_rely.specs.Steps.{StepFact, AllSteps, Throughout, IsLone}
 use Rattle.jl_rely.proofs.Alone.{waits_alone}
-use Rattle.jl_protocol.specs.Whole.{most_bytes}
 use Rattle.jl_clear.proofs.Folders.{entry_in, entry_place}
 use Rattle.jl_clear.proofs.Listings.{front_none, no_moves}
 use Rattle.jl_store.specs.Doing.{IsPrefix}
@@ -49,13 +47,13 @@ pub comes_written : (r : CodeCheck) → (p : Published) × (r ≡ check_of p che
 comes_written r (published.Done, e) = subst (λ (k : CodeCheck). Comes k held.Absent) (sym e) refl
 comes_written r (published.Skipped, e) = subst (λ (k : CodeCheck). Comes k held.Absent) (sym e) tt
 comes_written r (published.Fault, e) = subst (λ (k : CodeCheck). Comes k held.Absent) (sym e) tt
-comes_written r (published.NoMemory, e) = subst (λ (k : CodeCheck). Comes k held.Absent) (sym e) tt
+comes_written r (published.NoMemory, e) = subst (λ (k : CodeCheck). Comes k held.Absent) (sym e) (λ (is : held.Absent ≡ held.Fault). cc)
 
 pub comes_replaced : (r : CodeCheck) → (p : Published) × (r ≡ check_of p check.Cleared) → Comes r held.Other
 comes_replaced r (published.Done, e) = subst (λ (k : CodeCheck). Comes k held.Other) (sym e) refl
 comes_replaced r (published.Skipped, e) = subst (λ (k : CodeCheck). Comes k held.Other) (sym e) tt
 comes_replaced r (published.Fault, e) = subst (λ (k : CodeCheck). Comes k held.Other) (sym e) tt
-comes_replaced r (published.NoMemory, e) = subst (λ (k : CodeCheck). Comes k held.Other) (sym e) tt
+comes_replaced r (published.NoMemory, e) = subst (λ (k : CodeCheck). Comes k held.Other) (sym e) (λ (is : held.Other ≡ held.Fault). cc)
 
 -- ---- what is left
 
@@ -148,14 +146,16 @@ lone_owed Given Owed token f s (e ∷ es) lone owes =
 -- a file that was opened has its bytes at the entry
 opened_alone : (path : PathView) (P : List ℕ → Type 0) (s : State) (moves : Trace) → moves ≡ [] → OpenedHas path P s moves → FileHas path P s
 opened_alone path P s moves none o =
-    let split : o.before ++ o.later ≡ [] = sym o.split ∙ none in
-    let before : o.before ≡ [] = front_none o.before o.later (sym split) in
-    let later : o.later ≡ [] = ap (λ (t : Trace). t ++ o.later) (sym before) ∙ split in
+    let split : o.before ++ (o.middle ++ o.later) ≡ [] = sym o.split ∙ none in
+    let before : o.before ≡ [] = front_none o.before (o.middle ++ o.later) (sym split) in
+    let rest : o.middle ++ o.later ≡ [] = ap (λ (t : Trace). t ++ (o.middle ++ o.later)) (sym before) ∙ split in
+    let middle : o.middle ≡ [] = front_none o.middle o.later (sym rest) in
     let first : run s o.before ≡ s = ap (run s) before in
+    let second : run s (o.before ++ o.middle) ≡ s = ap (λ (t : Trace). run s (t ++ o.middle)) before ∙ ap (run s) middle in
     let named = ap (λ u. place_at u path) (sym first) ∙ o.named in (
       o.view.bytes,
-      ap (bytes_of s) named ∙ ap (option_map (λ (v : Node). v.bytes)) (subst (λ u. node_at u o.node ≡ Some o.view) first o.node_is),
-      o.has (subst (IsUnwritten o.node) (sym later) tt),
+      ap (bytes_of s) named ∙ ap (option_map (λ (v : Node). v.bytes)) (subst (λ u. node_at u o.node ≡ Some o.view) second o.node_is),
+      o.has,
     )
 
 module _ (root : PathView) (m f token : List ℕ) (files : CodeFiles) (are : AreFiles root m f token files) (code bytes : List ℕ) where
@@ -165,19 +165,18 @@ module _ (root : PathView) (m f token : List ℕ) (files : CodeFiles) (are : Are
       let at = subst (λ (k : Held). Holds files.last code k s []) comes holds in
       (subst (λ (es : Trace). is_file (run s es) files.last ≡ false) (front_none at.0 at.1 at.2) at.3, leaves)
   by_answer h check.Cleared s t comes holds leaves no_skip no_load no_store =
-      let has = opened_alone files.last (λ b. IsSameCode code b → most_bytes < length b) s [] refl (subst (λ (k : Held). Holds files.last code k s []) comes holds) in
-      ((has.0, has.1, λ is. let long = has.2 is.1 in omega (arith, long, is.0)), leaves)
+      (opened_alone files.last (λ b. IsOfCode code b → ⊥) s [] refl (subst (λ (k : Held). Holds files.last code k s []) comes holds), leaves)
   by_answer h check.Skipped s t comes holds leaves no_skip no_load no_store = no_skip refl
   by_answer h check.LoadFault s t comes holds leaves no_skip no_load no_store = no_load refl
   by_answer h check.StoreFault s t comes holds leaves no_skip no_load no_store = no_store refl
   by_answer h check.NoMemory s t comes holds leaves no_skip no_load no_store = tt
 
-  pub check_alone : (h : Held) (r : CodeCheck) (old mid new : History) → Waits token old mid → IsLone token (since old mid) → Comes r h → Holds files.last code h (now old) (since old mid) → LeavesCode r files bytes (now mid) (now new) → (r ≡ check.Skipped → ⊥) → (r ≡ check.LoadFault → ⊥) → (r ≡ check.StoreFault → ⊥)
-      → ChecksAlone r (function_path root m f) (code_path root m f) (code_temp root m f token) code bytes (now old) (now new)
+  pub check_alone : (h : Held) (r : CodeCheck) (old mid new : FolderView) → Waits old mid → IsLone old.token (moved old mid) → Comes r h → Holds files.last code h (state old) (moved old mid) → LeavesCode r files bytes (state mid) (state new) → (r ≡ check.Skipped → ⊥) → (r ≡ check.LoadFault → ⊥) → (r ≡ check.StoreFault → ⊥)
+      → ChecksAlone r (function_path root m f) (code_path root m f) (code_temp root m f token) code bytes (state old) (state new)
   check_alone h r old mid new waits lone comes holds leaves no_skip no_load no_store =
-      let first = subst (Holds files.last code h (now old)) (no_moves token old mid waits lone) holds in
-      let after_it = subst (λ s. LeavesCode r files bytes s (now new)) (waits_alone token old mid waits lone) leaves in
-      subst (λ (p : PathView). ChecksAlone r p (code_path root m f) (code_temp root m f token) code bytes (now old) (now new)) are.0
-      (subst (λ (p : PathView). ChecksAlone r files.folder p (code_temp root m f token) code bytes (now old) (now new)) are.1.is
-      (subst (λ (p : PathView). ChecksAlone r files.folder files.last p code bytes (now old) (now new)) are.2.is
-      (by_answer h r (now old) (now new) comes first after_it no_skip no_load no_store)))
+      let first = subst (Holds files.last code h (state old)) (no_moves old mid waits lone) holds in
+      let after_it = subst (λ s. LeavesCode r files bytes s (state new)) (waits_alone old mid waits lone) leaves in
+      subst (λ (p : PathView). ChecksAlone r p (code_path root m f) (code_temp root m f token) code bytes (state old) (state new)) are.0
+      (subst (λ (p : PathView). ChecksAlone r files.folder p (code_temp root m f token) code bytes (state old) (state new)) are.1.is
+      (subst (λ (p : PathView). ChecksAlone r files.folder files.last p code bytes (state old) (state new)) are.2.is
+      (by_answer h r (state old) (state new) comes first after_it no_skip no_load no_store)))

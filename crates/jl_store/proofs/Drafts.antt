@@ -7,7 +7,8 @@ use Rattle.jl_folder.specs.declared.moves.Node.{Node}
 use Rattle.jl_folder.specs.declared.moves.OpenFile.{OpenFile}
 use Rattle.jl_folder.specs.declared.moves.Move.{Move}
 use Rattle.jl_folder.specs.declared.moves.Move.TheVariants.{Create, Append, Rename, Remove}
-use Rattle.jl_folder.specs.State.{State, Event, History, Opens, IsState, IsHistory, place_at, node_at, bytes_of, bytes_at, now, since, after, run}
+use Rattle.jl_folder.specs.State.{State, Event, IsState, IsHistory, place_at, node_at, bytes_of, bytes_at, after, run}
+use Rattle.jl_folder.specs.Views.{FolderView, state, moved}
 use Rattle.jl_folder.specs.Calls.{Call, own_event}
 use Rattle.jl_folder.proofs.StateKept.{IsState-run}
 use Rattle.jl_rely.specs.Steps.{IsLone}
@@ -23,8 +24,8 @@ use Rattle.jl_store.specs.declared.temporary.TempFile.TheVariants as temp_file
 use Rattle.jl_store.specs.declared.temporary.Taken.TheVariants as taken
 
 -- what a folder tells stands in a state
-pub history_state : (h : History) (opens : Opens) → IsHistory h opens → IsState (now h)
-history_state h opens told = IsState-run h.start h.trace told.start told.trace
+pub history_state : (v : FolderView) → IsHistory v.history v.opens → IsState (state v)
+history_state v told = IsState-run v.history.start v.history.trace told.start told.trace
 
 -- ---- look-ups that stay
 
@@ -110,39 +111,42 @@ module _ (token : List ℕ) (temp : PathView) where
     beside = beside_then (λ p. p ≡ temp) first before s same draft.beside;
   }
 
-  pub temp_from : (opens : Opens) (r : TempFile) (first before s : State) → IsBeside (λ p. p ≡ temp) first before → TempAlone token temp opens r before s → TempAlone token temp opens r first s
-  temp_from opens (temp_file.File number) first before s same alone = λ file is. draft_from file.node [] first before s same (alone file is)
-  temp_from opens temp_file.Skipped first before s same alone = tt
-  temp_from opens temp_file.Fault first before s same alone = tt
-  temp_from opens temp_file.NoMemory first before s same alone = tt
+-- ---- calls
 
-  -- ---- calls
+pub temp_from : (temp : PathView) (r : TempFile) (first before : State) (new : FolderView) → IsBeside (λ p. p ≡ temp) first before → TempAlone temp r before new → TempAlone temp r first new
+temp_from temp (temp_file.File number) first before new same alone = λ file is. draft_from new.token temp file.node [] first before (state new) same (alone file is)
+temp_from temp temp_file.Skipped first before new same alone = tt
+temp_from temp temp_file.Fault first before new same alone = tt
+temp_from temp temp_file.NoMemory first before new same alone = tt
 
-  pub take_alone : (old new : History) → Call token old new (TakesAway temp taken.Away) → IsLone token (since old new) → IsBeside (λ p. p ≡ temp) (now old) (now new)
+module _ (temp : PathView) where
+  pub take_alone : (old new : FolderView) → Call old new (TakesAway temp taken.Away) → IsLone old.token (moved old new) → IsBeside (λ p. p ≡ temp) (state old) (state new)
   take_alone old new call lone =
-      let alone = moves_alone token old new (TakesAway temp taken.Away) call lone in
-      by alone.own alone.answer alone.state
+      let alone = moves_alone old new (TakesAway temp taken.Away) call lone in
+      by alone.own alone.answer alone.after
     where
-      by : (own : Option Move) → TakesAway temp taken.Away (now old) own → now new ≡ run (now old) (own_event token own) → IsBeside (λ p. p ≡ temp) (now old) (now new)
-      by own (inl none) state = beside_same (λ p. p ≡ temp) (now old) (now new) (state ∙ ap (λ o. run (now old) (own_event token o)) none.1)
-      by own (inr just) state =
-          subst (IsBeside (λ p. p ≡ temp) (now old)) (sym (state ∙ ap (λ o. run (now old) (own_event token o)) just)) (removed_beside (now old))
+      by : (own : Option Move) → TakesAway temp taken.Away (state old) own → state new ≡ run (state old) (own_event old.token own) → IsBeside (λ p. p ≡ temp) (state old) (state new)
+      by own (inl none) end = beside_same (λ p. p ≡ temp) (state old) (state new) (end ∙ ap (λ o. run (state old) (own_event old.token o)) none.1)
+      by own (inr just) end =
+          subst (IsBeside (λ p. p ≡ temp) (state old)) (sym (end ∙ ap (λ o. run (state old) (own_event old.token o)) just)) (removed_beside old.token temp (state old))
 
-  pub make_alone : (old new : History) (opens : Opens) (r : TempFile) → IsState (now old) → Call token old new (MakesFile temp opens r) → IsLone token (since old new) → TempAlone token temp opens r (now old) (now new)
-  make_alone old new opens (temp_file.File number) ok call lone =
-      let alone = moves_alone token old new (MakesFile temp opens (temp_file.File number)) call lone in
+  pub make_alone : (old new : FolderView) (r : TempFile) → new.token ≡ old.token → IsState (state old) → Call old new (MakesFile temp new.opens r) → IsLone old.token (moved old new) → TempAlone temp r (state old) new
+  make_alone old new (temp_file.File number) same ok call lone =
+      let alone = moves_alone old new (MakesFile temp new.opens (temp_file.File number)) call lone in
       let gives = alone.answer in
-      let draft : IsDraft token temp gives.node [] (now old) (now new) =
-      subst (IsDraft token temp gives.node [] (now old)) (sym (alone.state ∙ ap (λ o. run (now old) (own_event token o)) gives.move_is)) (created_draft (now old) gives.node ok gives.unused) in
-      λ file is. subst (λ (f : OpenFile). IsDraft token temp f.node [] (now old) (now new)) (one_open (opens number.0) (record { node = gives.node; made = true }) file gives.is_open is) draft
+      let draft : IsDraft old.token temp gives.node [] (state old) (state new) =
+      subst (IsDraft old.token temp gives.node [] (state old)) (sym (alone.after ∙ ap (λ o. run (state old) (own_event old.token o)) gives.move_is)) (created_draft old.token temp (state old) gives.node ok gives.unused) in
+      λ file is.
+      subst (λ (u : List ℕ). IsDraft u temp file.node [] (state old) (state new)) (sym same)
+      (subst (λ (f : OpenFile). IsDraft old.token temp f.node [] (state old) (state new)) (one_open (new.opens number.0) (record { node = gives.node; made = true }) file gives.is_open is) draft)
     where
       one_open : (o : Option OpenFile) (x y : OpenFile) → o ≡ Some x → o ≡ Some y → x ≡ y
       one_open o x y a b = let e : Some x ≡ Some y = sym a ∙ b in cc
-  make_alone old new opens temp_file.Skipped ok call lone = tt
-  make_alone old new opens temp_file.Fault ok call lone = tt
-  make_alone old new opens temp_file.NoMemory ok call lone = tt
+  make_alone old new temp_file.Skipped same ok call lone = tt
+  make_alone old new temp_file.Fault same ok call lone = tt
+  make_alone old new temp_file.NoMemory same ok call lone = tt
 
-  -- no own move
-  pub still_alone : (old new : History) (Answer : State → Option Move → Type 0) → ((s : State) (own : Option Move) → Answer s own → own ≡ None) → Call token old new Answer → IsLone token (since old new) → now new ≡ now old
-  still_alone old new Answer still call lone =
-      let alone = moves_alone token old new Answer call lone in alone.state ∙ ap (λ o. run (now old) (own_event token o)) (still (now old) alone.own alone.answer)
+-- no own move
+pub still_alone : (old new : FolderView) (Answer : State → Option Move → Type 0) → ((s : State) (own : Option Move) → Answer s own → own ≡ None) → Call old new Answer → IsLone old.token (moved old new) → state new ≡ state old
+still_alone old new Answer still call lone =
+    let alone = moves_alone old new Answer call lone in alone.after ∙ ap (λ o. run (state old) (own_event old.token o)) (still (state old) alone.own alone.answer)

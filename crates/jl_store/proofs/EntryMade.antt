@@ -1,7 +1,7 @@
 -- Making the entry's folder.
 use Rattle.jl_text.specs.Texts.{is_token}
 use Rattle.std.specs.Prelude.{IsTrue}
-use Rattle.std.proofs.Common.{◌≡◌, ◌≢◌, ◌⊎◌, inl, inr, ⊎_elim, ℕ, true, false, List, [], ◌++◌, Option, None, Some, IsSome, true≢false, refl, sym, ap, subst, ◌∙◌}
+use Rattle.std.proofs.Common.{◌≡◌, ◌≢◌, ◌⊎◌, inl, inr, ⊎_elim, ℕ, true, false, List, ◌++◌, Option, None, Some, IsSome, true≢false, refl, sym, ap, subst, ◌∙◌}
 use Rattle.std.specs.Option.{option_map_or}
 use Rattle.jl_text.specs.Paths.{PathView}
 use Rattle.jl_folder.specs.declared.moves.Place.{Place}
@@ -10,17 +10,18 @@ use Rattle.jl_folder.specs.declared.moves.Move.{Move}
 use Rattle.jl_folder.specs.declared.moves.Move.TheVariants.{MakeDir}
 use Rattle.jl_folder.specs.declared.folder.MadeDir.{MadeDir}
 use Rattle.jl_folder.specs.declared.folder.MadeDir.TheVariants as made_dir
-use Rattle.jl_folder.specs.State.{State, History, place_at, is_folder, is_folder_place, now, since, after, run}
+use Rattle.jl_folder.specs.State.{State, place_at, is_folder, is_folder_place, after, run}
+use Rattle.jl_folder.specs.Views.{FolderView, state, moved}
 use Rattle.jl_folder.specs.Calls.{Call, MakesDir, Maybe, own_event}
 use Rattle.jl_folder.proofs.Traces.{run-append}
 use Rattle.jl_entry.specs.declared.names.EntryFile.{EntryFile}
 use Rattle.jl_entry.specs.declared.names.EntryFile.TheVariants.{Output, Metadata, Access}
-use Rattle.jl_rely.specs.Steps.{OwnMoves, IsLone}
-use Rattle.jl_rely.specs.Claims.{Anywhere}
+use Rattle.jl_rely.specs.Steps.{IsLone, OwnMoves}
+use Rattle.jl_rely.specs.Claims.{Moves, Anywhere}
 use Rattle.jl_rely.specs.Touches.{Touches, TouchedByOther}
-use Rattle.jl_rely.proofs.Since.{now_went, went_none}
+use Rattle.jl_rely.proofs.Since.{now_went}
+use Rattle.jl_rely.proofs.Moving.{moves_none, moves_call}
 use Rattle.jl_rely.proofs.Alone.{moves_alone}
-use Rattle.jl_rely.proofs.Traces.{OwnMoves-append, foreign_own}
 use Rattle.jl_rely.proofs.Touched.{IsApart}
 use Rattle.jl_rely.proofs.Effects.{made_here}
 use Rattle.jl_rely.proofs.Causes.{folder_as, until_end, lost_parent}
@@ -31,7 +32,7 @@ use Rattle.jl_protocol.proofs.Kills.{tidy_carried}
 use Rattle.jl_protocol.proofs.LawfulCalls.{always_make_dir}
 use Rattle.jl_clear.specs.Taking.{IsBeside}
 use Rattle.jl_clear.proofs.Folders.{final_no_folder, temp_no_folder}
-use Rattle.jl_store.specs.Keeping.{Entry, entry_path, function_path, file_of, last_of, temp_of, IsKeeping, RenamesEntry, PutsEntry, UsesEntry, Keeps, IsReadyFor, AreReady, IsAnyFile, made_of}
+use Rattle.jl_store.specs.Keeping.{Entry, entry_path, function_path, file_of, last_of, temp_of, IsKeeping, IsMakingEntry, RenamesEntry, PutsEntry, UsesEntry, Keeps, IsReadyFor, AreReady, IsAnyFile, made_of}
 use Rattle.jl_store.specs.declared.answer.Keep.TheVariants as keep
 use Rattle.jl_store.proofs.Drafts.{beside_same, untouched, bytes_stay}
 use Rattle.jl_store.proofs.EntryNames.{IsNamed, final_of, temp_is, entry_in_store, entry_parent, entry_home, entry_not_last, entry_not_temp}
@@ -56,7 +57,17 @@ folder_if : (o : Option Place) → IsSome o → ((n : ℕ) → o ≡ Some (File 
 folder_if None some none = absurd (true≢false (sym some))
 folder_if (Some place) some none = elim place as (λ (k : Place). ((n : ℕ) → Some k ≡ Some (File n) → ⊥) → is_folder_place k ≡ true) [ Folder ↦ λ h. refl | File n ↦ λ h. absurd (h n refl) ] none
 
-module _ (e : Entry) (token : List ℕ) (named : IsNamed e) (ok : IsTrue (is_token token)) (old new : History) where
+pub made_fault : (r : MadeDir) → made_of r ≡ keep.Fault → r ≡ made_dir.Failed
+made_fault made_dir.Made e' = absurd (cc)
+made_fault made_dir.Exists e' = absurd (cc)
+made_fault made_dir.NoParent e' = absurd (cc)
+made_fault made_dir.Failed e' = refl
+made_fault made_dir.NoMemory e' = absurd (cc)
+
+module _ (e : Entry) (named : IsNamed e) (old new : FolderView) (same : new.token ≡ old.token) (ok : IsTrue (is_token old.token)) where
+  abbrev token : List ℕ
+  token = old.token
+
   abbrev Turn : (EntryFile → List ℕ) → State → Option Move → Type 0
   Turn text s own = IsOwnTurn (IsProper e.root) (PutsEntry e text) token (IsKeeping e token) (IsTidy e.root) Anywhere s own
 
@@ -79,96 +90,104 @@ module _ (e : Entry) (token : List ℕ) (named : IsNamed e) (ok : IsTrue (is_tok
   owns text made_dir.Failed s own gives = maybe text s own gives
   owns text made_dir.NoMemory s own gives = maybe text s own gives
 
-  missed : (r : MadeDir) → Call token old new (MakesDir (entry_path e) r) → made_of r ≡ keep.Skipped → is_folder (now old) (function_path e) ≡ true → TouchedByOther token (UsesEntry e token) (since old new)
-  unfolding OwnMoves
+  missed : (r : MadeDir) → Call old new (MakesDir (entry_path e) r) → made_of r ≡ keep.Skipped → is_folder (state old) (function_path e) ≡ true → TouchedByOther token (UsesEntry e token) (moved old new)
   missed made_dir.Made call is was = absurd (cc)
   missed made_dir.Exists call is was = absurd (cc)
   missed made_dir.NoParent call is was =
-      lost_parent token (UsesEntry e token) (λ m. ⊥) (entry_path e) (inr (inr (entry_parent e))) (λ m no_move touch. no_move) old old new [] (went_none old) tt (MakesDir (entry_path e) made_dir.NoParent) call (entry_home e (now old) was) call.answer.1
+      lost_parent (UsesEntry e token) (λ m. ⊥) (entry_path e) (inr (inr (entry_parent e))) (λ m no_move touch. no_move) old old new (moves_none (λ m. ⊥) old) (MakesDir (entry_path e) made_dir.NoParent) call (entry_home e (state old) was) call.answer.1
   missed made_dir.Failed call is was = absurd (cc)
   missed made_dir.NoMemory call is was = absurd (cc)
 
-  pub made_keeps : (text : EntryFile → List ℕ) (r : MadeDir) → Call token old new (MakesDir (entry_path e) r) → Keeps e token text (λ s. is_folder s (function_path e) ≡ true) (λ steps. Unit {0}) old new (made_of r)
+  pub made_keeps : (text : EntryFile → List ℕ) (r : MadeDir) → Call old new (MakesDir (entry_path e) r) → Keeps e text (λ s. is_folder s (function_path e) ≡ true) (λ steps. Unit {0}) (made_of r) old new
   made_keeps text r call = record {
-    call = turn_called (IsProper e.root) (PutsEntry e text) token (IsKeeping e token) (IsTidy e.root) Anywhere (MakesDir (entry_path e) r) old new (carried_stable (IsProper e.root) token (IsTidy e.root) (tidy_carried e.root)) call (owns text r);
+    call = turn_called (IsProper e.root) (PutsEntry e text) (IsKeeping e token) (IsTidy e.root) Anywhere (MakesDir (entry_path e) r) old new (carried_stable (IsProper e.root) token (IsTidy e.root) (tidy_carried e.root)) same call (owns text r);
     kept = λ is. tt;
     skipped = λ is was. missed r call is was;
   }
 
+  pub made_only : (r : MadeDir) → Call old new (MakesDir (entry_path e) r) → OwnMoves token (IsMakingEntry e) (moved old new)
+  made_only r call = (moves_call (IsMakingEntry e) old new (MakesDir (entry_path e) r) (by r) same call).own
+    where
+      by_maybe : (own : Option Move) → Maybe (MakeDir (entry_path e)) own → (own ≡ None) ⊎ ((m : Move) × (own ≡ Some m) × IsMakingEntry e m)
+      by_maybe own (inl none) = inl none
+      by_maybe own (inr just) = inr (MakeDir (entry_path e), just, refl)
+
+      by : (r' : MadeDir) (s : State) (own : Option Move) → MakesDir (entry_path e) r' s own → (own ≡ None) ⊎ ((m : Move) × (own ≡ Some m) × IsMakingEntry e m)
+      by made_dir.Made s own gives = inr (MakeDir (entry_path e), gives.2, refl)
+      by made_dir.Exists s own gives = inl gives.1
+      by made_dir.NoParent s own gives = inl gives.2
+      by made_dir.Failed s own gives = by_maybe own gives
+      by made_dir.NoMemory s own gives = by_maybe own gives
+
   -- ---- what is ready then
 
-  made_own : (r : MadeDir) (call : Call token old new (MakesDir (entry_path e) r)) → made_of r ≡ keep.Kept → OwnMoves token (MakesThis (entry_path e)) (call.others ++ own_event token call.own)
-  unfolding OwnMoves
-  made_own r call is = OwnMoves-append token (MakesThis (entry_path e)) call.others (own_event token call.own) (foreign_own token (MakesThis (entry_path e)) call.others call.foreign) (by r call.own is call.answer)
+  made_moves : (r : MadeDir) (call : Call old new (MakesDir (entry_path e) r)) → made_of r ≡ keep.Kept → Moves (MakesThis (entry_path e)) old new
+  made_moves r call is = moves_call (MakesThis (entry_path e)) old new (MakesDir (entry_path e) r) (by r is) same call
     where
-      by : (r' : MadeDir) (own : Option Move) → made_of r' ≡ keep.Kept → MakesDir (entry_path e) r' (run (now old) call.others) own → OwnMoves token (MakesThis (entry_path e)) (own_event token own)
-      by made_dir.Made own is' gives = subst (λ o. OwnMoves token (MakesThis (entry_path e)) (own_event token o)) (sym gives.2) (λ mine. refl, tt)
-      by made_dir.Exists own is' gives = subst (λ o. OwnMoves token (MakesThis (entry_path e)) (own_event token o)) (sym gives.1) tt
-      by made_dir.NoParent own is' gives = absurd (cc)
-      by made_dir.Failed own is' gives = absurd (cc)
-      by made_dir.NoMemory own is' gives = absurd (cc)
+      by : (r' : MadeDir) → made_of r' ≡ keep.Kept → (s : State) (own : Option Move) → MakesDir (entry_path e) r' s own → (own ≡ None) ⊎ ((m : Move) × (own ≡ Some m) × MakesThis (entry_path e) m)
+      by made_dir.Made is' s own gives = inr (MakeDir (entry_path e), gives.2, refl)
+      by made_dir.Exists is' s own gives = inl gives.1
+      by made_dir.NoParent is' s own gives = absurd (cc)
+      by made_dir.Failed is' s own gives = absurd (cc)
+      by made_dir.NoMemory is' s own gives = absurd (cc)
 
-  end_is : (r : MadeDir) (call : Call token old new (MakesDir (entry_path e) r)) → now new ≡ run (run (now old) call.others) (own_event token call.own)
-  end_is r call = now_went old new (call.others ++ own_event token call.own) (went_call token old new (MakesDir (entry_path e) r) call) ∙ run-append (now old) call.others (own_event token call.own)
+  end_is : (r : MadeDir) (call : Call old new (MakesDir (entry_path e) r)) → state new ≡ run (run (state old) call.others) (own_event token call.own)
+  end_is r call = now_went old new (call.others ++ own_event token call.own) (went_call old new (MakesDir (entry_path e) r) call) ∙ run-append (state old) call.others (own_event token call.own)
 
-  stands : (r : MadeDir) (call : Call token old new (MakesDir (entry_path e) r)) → made_of r ≡ keep.Kept → IsTidy e.root (now old) → (is_folder (now new) (entry_path e) ≡ true) ⊎ TouchedByOther token (UsesEntry e token) (since old new)
-  unfolding OwnMoves
+  stands : (r : MadeDir) (call : Call old new (MakesDir (entry_path e) r)) → made_of r ≡ keep.Kept → IsTidy e.root (state old) → (is_folder (state new) (entry_path e) ≡ true) ⊎ TouchedByOther token (UsesEntry e token) (moved old new)
   stands made_dir.Made call is tidy =
-      let at : now new ≡ after (run (now old) call.others) (token, MakeDir (entry_path e)) = end_is made_dir.Made call ∙ ap (λ o. run (run (now old) call.others) (own_event token o)) call.answer.2 in
-      inl (ap (λ o. option_map_or is_folder_place o false) (ap (λ s. place_at s (entry_path e)) at ∙ made_here (run (now old) call.others) token (entry_path e)))
+      let at : state new ≡ after (run (state old) call.others) (token, MakeDir (entry_path e)) = end_is made_dir.Made call ∙ ap (λ o. run (run (state old) call.others) (own_event token o)) call.answer.2 in
+      inl (ap (λ o. option_map_or is_folder_place o false) (ap (λ s. place_at s (entry_path e)) at ∙ made_here (run (state old) call.others) token (entry_path e)))
   stands made_dir.Exists call is tidy =
-      let at : now new ≡ run (now old) call.others = end_is made_dir.Exists call ∙ ap (λ o. run (run (now old) call.others) (own_event token o)) call.answer.1 in
-      let moves = call.others ++ own_event token call.own in
-      let own : OwnMoves token (λ m. ⊥) moves = OwnMoves-append token (λ m. ⊥) call.others (own_event token call.own) (foreign_own token (λ m. ⊥) call.others call.foreign) (subst (λ o. OwnMoves token (λ m. ⊥) (own_event token o)) (sym call.answer.1) tt) in
+      let at : state new ≡ run (state old) call.others = end_is made_dir.Exists call ∙ ap (λ o. run (run (state old) call.others) (own_event token o)) call.answer.1 in
       ⊎_elim
-      (λ (same : place_at (now new) (entry_path e) ≡ place_at (now old) (entry_path e)).
-      inl (folder_if (place_at (now new) (entry_path e)) (subst (λ s. IsSome (place_at s (entry_path e))) (sym at) call.answer.0)
-      (λ n file. tidy.no_file (entry_path e) n (sym same ∙ file) (entry_in_store e named))))
-      (λ (t : TouchedByOther token (UsesEntry e token) (since old new)). inr t)
-      (until_end token (UsesEntry e token) (λ m. ⊥) (entry_path e) (inr (inl refl)) (λ m no_move touch. no_move) old new moves (went_call token old new (MakesDir (entry_path e) made_dir.Exists) call) own)
+      (λ (stays : place_at (state new) (entry_path e) ≡ place_at (state old) (entry_path e)).
+      inl (folder_if (place_at (state new) (entry_path e)) (subst (λ s. IsSome (place_at s (entry_path e))) (sym at) call.answer.0)
+      (λ n file. tidy.no_file (entry_path e) n (sym stays ∙ file) (entry_in_store e named))))
+      (λ (t : TouchedByOther token (UsesEntry e token) (moved old new)). inr t)
+      (until_end (UsesEntry e token) (λ m. ⊥) (entry_path e) (inr (inl refl)) (λ m no_move touch. no_move) old new
+      (moves_call (λ m. ⊥) old new (MakesDir (entry_path e) made_dir.Exists) (λ s own gives. inl gives.1) same call))
   stands made_dir.NoParent call is tidy = absurd (cc)
   stands made_dir.Failed call is tidy = absurd (cc)
   stands made_dir.NoMemory call is tidy = absurd (cc)
 
-  ready_for : (r : MadeDir) (call : Call token old new (MakesDir (entry_path e) r)) → made_of r ≡ keep.Kept → IsTidy e.root (now old) → is_folder (now new) (entry_path e) ≡ true → (file : EntryFile) → IsReadyFor e token file (now new) ⊎ TouchedByOther token (UsesEntry e token) (since old new)
+  ready_for : (r : MadeDir) (call : Call old new (MakesDir (entry_path e) r)) → made_of r ≡ keep.Kept → IsTidy e.root (state old) → is_folder (state new) (entry_path e) ≡ true → (file : EntryFile) → IsReadyFor e token file (state new) ⊎ TouchedByOther token (UsesEntry e token) (moved old new)
   ready_for r call is tidy home file =
-      let moves = call.others ++ own_event token call.own in
-      let went = went_call token old new (MakesDir (entry_path e) r) call in
-      let own = made_own r call is in
+      let moves = made_moves r call is in
       ⊎_elim
-      (λ (a : place_at (now new) (last_of e file) ≡ place_at (now old) (last_of e file)).
+      (λ (a : place_at (state new) (last_of e file) ≡ place_at (state old) (last_of e file)).
       ⊎_elim
-      (λ (b : place_at (now new) (temp_of e token file) ≡ place_at (now old) (temp_of e token file)).
+      (λ (b : place_at (state new) (temp_of e token file) ≡ place_at (state old) (temp_of e token file)).
       inl (record {
         home = home;
-        last_free = folder_as (now old) (now new) (last_of e file) a ∙ final_no_folder e.root (file_of e file) (last_of e file) (now old) (final_of e named file) tidy;
-        temp_free = folder_as (now old) (now new) (temp_of e token file) b ∙ temp_no_folder e.root (file_of e file) token (temp_of e token file) (now old) (temp_is e named token ok file) tidy;
+        last_free = folder_as (state old) (state new) (last_of e file) a ∙ final_no_folder e.root (file_of e file) (last_of e file) (state old) (final_of e named file) tidy;
+        temp_free = folder_as (state old) (state new) (temp_of e token file) b ∙ temp_no_folder e.root (file_of e file) token (temp_of e token file) (state old) (temp_is e named token ok file) tidy;
       }))
-      (λ (t : TouchedByOther token (UsesEntry e token) (since old new)). inr t)
-      (until_end token (UsesEntry e token) (MakesThis (entry_path e)) (temp_of e token file) (inl (file, inr refl)) (makes_apart (entry_path e) (temp_of e token file) (λ s. entry_not_temp e token file (sym s))) old new moves went own))
-      (λ (t : TouchedByOther token (UsesEntry e token) (since old new)). inr t)
-      (until_end token (UsesEntry e token) (MakesThis (entry_path e)) (last_of e file) (inl (file, inl refl)) (makes_apart (entry_path e) (last_of e file) (λ s. entry_not_last e file (sym s))) old new moves went own)
+      (λ (t : TouchedByOther token (UsesEntry e token) (moved old new)). inr t)
+      (until_end (UsesEntry e token) (MakesThis (entry_path e)) (temp_of e token file) (inl (file, inr refl)) (makes_apart (entry_path e) (temp_of e token file) (λ s. entry_not_temp e token file (sym s))) old new moves))
+      (λ (t : TouchedByOther token (UsesEntry e token) (moved old new)). inr t)
+      (until_end (UsesEntry e token) (MakesThis (entry_path e)) (last_of e file) (inl (file, inl refl)) (makes_apart (entry_path e) (last_of e file) (λ s. entry_not_last e file (sym s))) old new moves)
 
-  pub made_ready : (r : MadeDir) → Call token old new (MakesDir (entry_path e) r) → made_of r ≡ keep.Kept → IsTidy e.root (now old) → AreReady e token IsAnyFile (now new) ⊎ TouchedByOther token (UsesEntry e token) (since old new)
+  pub made_ready : (r : MadeDir) → Call old new (MakesDir (entry_path e) r) → made_of r ≡ keep.Kept → IsTidy e.root (state old) → AreReady e token IsAnyFile (state new) ⊎ TouchedByOther token (UsesEntry e token) (moved old new)
   made_ready r call is tidy =
       ⊎_elim
-      (λ (home : is_folder (now new) (entry_path e) ≡ true).
+      (λ (home : is_folder (state new) (entry_path e) ≡ true).
       ⊎_elim
-      (λ (a : IsReadyFor e token Output (now new)).
+      (λ (a : IsReadyFor e token Output (state new)).
       ⊎_elim
-      (λ (b : IsReadyFor e token Metadata (now new)).
+      (λ (b : IsReadyFor e token Metadata (state new)).
       ⊎_elim
-      (λ (d : IsReadyFor e token Access (now new)). inl (λ file any. all a b d file))
-      (λ (t : TouchedByOther token (UsesEntry e token) (since old new)). inr t)
+      (λ (d : IsReadyFor e token Access (state new)). inl (λ file any. all a b d file))
+      (λ (t : TouchedByOther token (UsesEntry e token) (moved old new)). inr t)
       (ready_for r call is tidy home Access))
-      (λ (t : TouchedByOther token (UsesEntry e token) (since old new)). inr t)
+      (λ (t : TouchedByOther token (UsesEntry e token) (moved old new)). inr t)
       (ready_for r call is tidy home Metadata))
-      (λ (t : TouchedByOther token (UsesEntry e token) (since old new)). inr t)
+      (λ (t : TouchedByOther token (UsesEntry e token) (moved old new)). inr t)
       (ready_for r call is tidy home Output))
-      (λ (t : TouchedByOther token (UsesEntry e token) (since old new)). inr t)
+      (λ (t : TouchedByOther token (UsesEntry e token) (moved old new)). inr t)
       (stands r call is tidy)
     where
-      all : IsReadyFor e token Output (now new) → IsReadyFor e token Metadata (now new) → IsReadyFor e token Access (now new) → (file : EntryFile) → IsReadyFor e token file (now new)
+      all : IsReadyFor e token Output (state new) → IsReadyFor e token Metadata (state new) → IsReadyFor e token Access (state new) → (file : EntryFile) → IsReadyFor e token file (state new)
       all a b d Output = a
       all a b d Metadata = b
       all a b d Access = d
@@ -179,13 +198,13 @@ module _ (e : Entry) (token : List ℕ) (named : IsNamed e) (ok : IsTrue (is_tok
   made_beside s p apart =
       let place = untouched s (token, MakeDir (entry_path e)) p apart in (place, bytes_stay s (after s (token, MakeDir (entry_path e))) p place (λ n file. refl))
 
-  pub made_alone : (r : MadeDir) → Call token old new (MakesDir (entry_path e) r) → made_of r ≡ keep.Kept → IsLone token (since old new) → IsBeside (λ p. p ≡ entry_path e) (now old) (now new)
+  pub made_alone : (r : MadeDir) → Call old new (MakesDir (entry_path e) r) → made_of r ≡ keep.Kept → IsLone token (moved old new) → IsBeside (λ p. p ≡ entry_path e) (state old) (state new)
   made_alone r call is lone =
-      let alone = moves_alone token old new (MakesDir (entry_path e) r) call lone in by r is alone.own alone.answer alone.state
+      let alone = moves_alone old new (MakesDir (entry_path e) r) call lone in by r is alone.own alone.answer alone.after
     where
-      by : (r' : MadeDir) → made_of r' ≡ keep.Kept → (own : Option Move) → MakesDir (entry_path e) r' (now old) own → now new ≡ run (now old) (own_event token own) → IsBeside (λ p. p ≡ entry_path e) (now old) (now new)
-      by made_dir.Made is' own gives state = subst (IsBeside (λ p. p ≡ entry_path e) (now old)) (sym (state ∙ ap (λ o. run (now old) (own_event token o)) gives.2)) (made_beside (now old))
-      by made_dir.Exists is' own gives state = beside_same (λ p. p ≡ entry_path e) (now old) (now new) (state ∙ ap (λ o. run (now old) (own_event token o)) gives.1)
-      by made_dir.NoParent is' own gives state = absurd (cc)
-      by made_dir.Failed is' own gives state = absurd (cc)
-      by made_dir.NoMemory is' own gives state = absurd (cc)
+      by : (r' : MadeDir) → made_of r' ≡ keep.Kept → (own : Option Move) → MakesDir (entry_path e) r' (state old) own → state new ≡ run (state old) (own_event token own) → IsBeside (λ p. p ≡ entry_path e) (state old) (state new)
+      by made_dir.Made is' own gives end = subst (IsBeside (λ p. p ≡ entry_path e) (state old)) (sym (end ∙ ap (λ o. run (state old) (own_event token o)) gives.2)) (made_beside (state old))
+      by made_dir.Exists is' own gives end = beside_same (λ p. p ≡ entry_path e) (state old) (state new) (end ∙ ap (λ o. run (state old) (own_event token o)) gives.1)
+      by made_dir.NoParent is' own gives end = absurd (cc)
+      by made_dir.Failed is' own gives end = absurd (cc)
+      by made_dir.NoMemory is' own gives end = absurd (cc)

@@ -6,14 +6,14 @@ use Rattle.jl_text.specs.Paths.{PathView, is_fixed, parent}
 use Rattle.jl_folder.specs.declared.moves.Place.{Place}
 use Rattle.jl_folder.specs.declared.moves.Move.{Move}
 use Rattle.jl_folder.specs.declared.moves.Move.TheVariants.{MakeDir, Create, Append, Rename, Remove, RemoveDir}
-use Rattle.jl_folder.specs.State.{State, Event, Trace, History, IsState, place_at, is_folder, bytes_of, bytes_at, now, since}
+use Rattle.jl_folder.specs.State.{State, Event, Trace, IsState, place_at, is_folder, bytes_of, bytes_at}
+use Rattle.jl_folder.specs.Views.{FolderView, state, moved}
 use Rattle.jl_entry.specs.declared.names.EntryFile.{EntryFile}
 use Rattle.jl_entry.specs.declared.names.EntryFile.TheVariants.{Output, Metadata, Access}
 use Rattle.jl_entry.specs.Names.{IsFinal, IsTemp}
-use Rattle.jl_rely.specs.Steps.{OwnMoves}
-use Rattle.jl_rely.specs.Claims.{GoesOn, Anywhere}
+use Rattle.jl_rely.specs.Claims.{Called, Moves, Anywhere}
 use Rattle.jl_rely.specs.Touches.{TouchedByOther}
-use Rattle.jl_rely.proofs.Since.{since_then, went_since}
+use Rattle.jl_rely.proofs.Since.{moved_then}
 use Rattle.jl_rely.proofs.Touched.{touched_as}
 use Rattle.jl_rely.proofs.Causes.{folder_as, touched_later, touched_sooner, until_end}
 use Rattle.jl_rely.proofs.Composed.{then_called, called_as, called_for, called_keeps, not_called}
@@ -33,7 +33,7 @@ use Rattle.jl_store.proofs.EntryNames.{IsNamed, final_of, temp_is, last_parent, 
 
 -- ---- one file
 
-for_keeping : (e : Entry) (token : List ℕ) (file : EntryFile) (m : Move) → IsFor (last_of e file) (temp_of e token file) m → IsKeeping e token m
+pub for_keeping : (e : Entry) (token : List ℕ) (file : EntryFile) (m : Move) → IsFor (last_of e file) (temp_of e token file) m → IsKeeping e token m
 unfolding IsFor IsKeeping
 for_keeping e token file (MakeDir p) is = absurd is
 for_keeping e token file (Create p n) is = (file, is)
@@ -42,7 +42,7 @@ for_keeping e token file (Rename p q) is = (file, is.0, is.1)
 for_keeping e token file (Remove p) is = (file, is)
 for_keeping e token file (RemoveDir p) is = is
 
-renames_file : (e : Entry) (text : EntryFile → List ℕ) (file : EntryFile) (s : State) (m : Move) → RenamesThis (last_of e file) (text file) s m → RenamesEntry e text s m
+pub renames_file : (e : Entry) (text : EntryFile → List ℕ) (file : EntryFile) (s : State) (m : Move) → RenamesThis (last_of e file) (text file) s m → RenamesEntry e text s m
 unfolding RenamesThis RenamesEntry
 renames_file e text file s (MakeDir p) is = tt
 renames_file e text file s (Create p n) is = tt
@@ -62,59 +62,70 @@ done_if published.Skipped is = absurd (cc)
 done_if published.Fault is = absurd (cc)
 done_if published.NoMemory is = absurd (cc)
 
+pub fault_if : (r : Published) → keep_of r ≡ keep.Fault → r ≡ published.Fault
+fault_if published.Done is = absurd (cc)
+fault_if published.Skipped is = absurd (cc)
+fault_if published.Fault is = refl
+fault_if published.NoMemory is = absurd (cc)
+
+pub if_fault : (r : Published) → r ≡ published.Fault → keep_of r ≡ keep.Fault
+if_fault r is = ap keep_of is
+
 pub skipped_if : (r : Published) → keep_of r ≡ keep.Skipped → r ≡ published.Skipped
 skipped_if published.Done is = absurd (cc)
 skipped_if published.Skipped is = refl
 skipped_if published.Fault is = absurd (cc)
 skipped_if published.NoMemory is = absurd (cc)
 
-module _ (e : Entry) (token : List ℕ) (file : EntryFile) (old new : History) where
+module _ (e : Entry) (file : EntryFile) (old new : FolderView) where
+  abbrev token : List ℕ
+  token = old.token
+
   -- publishing, with the names of the entry
-  pub file_keeps : (last temp : PathView) (bytes : List ℕ) (r : Published) → IsFinal e.root (file_of e file) last → IsTemp e.root (file_of e file) token temp → Publishes e.root token last temp bytes old new r → (r ≡ published.Done → EndsIn (token, Rename temp last) (since old new)) → KeepsFile e token file bytes (IsReadyFor e token file) old new (keep_of r)
+  pub file_keeps : (last temp : PathView) (bytes : List ℕ) (r : Published) → IsFinal e.root (file_of e file) last → IsTemp e.root (file_of e file) token temp → Publishes e.root last temp bytes r old new → (r ≡ published.Done → EndsIn (token, Rename temp last) (moved old new)) → KeepsFile e file bytes (IsReadyFor e token file) (keep_of r) old new
   file_keeps last temp bytes r final is_temp publishes ends =
-      let here : Publishes e.root token (last_of e file) (temp_of e token file) bytes old new r =
-      subst (λ p. Publishes e.root token p (temp_of e token file) bytes old new r) final.is (subst (λ p. Publishes e.root token last p bytes old new r) is_temp.is publishes) in
+      let here : Publishes e.root (last_of e file) (temp_of e token file) bytes r old new =
+      subst (λ p. Publishes e.root p (temp_of e token file) bytes r old new) final.is (subst (λ p. Publishes e.root last p bytes r old new) is_temp.is publishes) in
       record {
         call = here.call;
-        kept = λ is. let end = ends (done_if r is) in (end.0, [], subst (λ p. since old new ≡ end.0 ++ (token, Rename p (last_of e file)) ∷ []) is_temp.is (subst (λ p. since old new ≡ end.0 ++ (token, Rename temp p) ∷ []) final.is end.1));
-        skipped = λ is ready. here.skipped (skipped_if r is) (record { last_free = ready.last_free; temp_free = ready.temp_free; home = last_home e file (now old) ready.home });
+        kept = λ is. let end = ends (done_if r is) in (end.0, [], subst (λ p. moved old new ≡ end.0 ++ (token, Rename p (last_of e file)) ∷ []) is_temp.is (subst (λ p. moved old new ≡ end.0 ++ (token, Rename temp p) ∷ []) final.is end.1));
+        skipped = λ is ready. here.skipped (skipped_if r is) (record { last_free = ready.last_free; temp_free = ready.temp_free; home = last_home e file (state old) ready.home });
       }
 
-  pub file_published : (last temp : PathView) (bytes : List ℕ) → IsFinal e.root (file_of e file) last → IsTemp e.root (file_of e file) token temp → IsPublished last temp bytes (now old) (now new) → IsPublished (last_of e file) (temp_of e token file) bytes (now old) (now new)
-  file_published last temp bytes final is_temp is = subst (λ p. IsPublished p (temp_of e token file) bytes (now old) (now new)) final.is (subst (λ p. IsPublished last p bytes (now old) (now new)) is_temp.is is)
-
-  -- nothing was done
-  pub nothing_filed : (bytes : List ℕ) (Ready : State → Type 0) → KeepsFile e token file bytes Ready old old keep.NoMemory
-  nothing_filed bytes Ready = record {
-    call = not_called (IsProper e.root) (PutsThis e.root (last_of e file) bytes) token (IsFor (last_of e file) (temp_of e token file)) (IsTidy e.root) Anywhere old (λ s tidy. tt);
-    kept = λ (is : keep.NoMemory ≡ keep.Kept). absurd (cc);
-    skipped = λ (is : keep.NoMemory ≡ keep.Skipped). absurd (cc);
-  }
+  pub file_published : (last temp : PathView) (bytes : List ℕ) → IsFinal e.root (file_of e file) last → IsTemp e.root (file_of e file) token temp → IsPublished last temp bytes (state old) (state new) → IsPublished (last_of e file) (temp_of e token file) bytes (state old) (state new)
+  file_published last temp bytes final is_temp is = subst (λ p. IsPublished p (temp_of e token file) bytes (state old) (state new)) final.is (subst (λ p. IsPublished last p bytes (state old) (state new)) is_temp.is is)
 
   -- told of another beginning
-  pub file_from : (bytes : List ℕ) (Ready Ready' : State → Type 0) (r : Keep) → (r ≡ keep.Skipped → Ready' (now old) → TouchedByOther token (UsesNames (last_of e file) (temp_of e token file)) (since old new)) → KeepsFile e token file bytes Ready old new r → KeepsFile e token file bytes Ready' old new r
+  pub file_from : (bytes : List ℕ) (Ready Ready' : State → Type 0) (r : Keep) → (r ≡ keep.Skipped → Ready' (state old) → TouchedByOther token (UsesNames (last_of e file) (temp_of e token file)) (moved old new)) → KeepsFile e file bytes Ready r old new → KeepsFile e file bytes Ready' r old new
   file_from bytes Ready Ready' r skipped keeps = record { call = keeps.call; kept = keeps.kept; skipped = skipped }
 
   -- one file is a part of the entry
-  pub file_part : (text : EntryFile → List ℕ) (r : Keep) → KeepsFile e token file (text file) (IsReadyFor e token file) old new r → Keeps e token text (IsReadyFor e token file) (HasPut e token file) old new r
+  pub file_part : (text : EntryFile → List ℕ) (r : Keep) → KeepsFile e file (text file) (IsReadyFor e token file) r old new → Keeps e text (IsReadyFor e token file) (HasPut e token file) r old new
   file_part text r keeps = record {
-    call = called_as (IsProper e.root) (IsProper e.root) (PutsThis e.root (last_of e file) (text file)) (PutsEntry e text) token (IsFor (last_of e file) (temp_of e token file)) (IsKeeping e token) (IsTidy e.root) (IsTidy e.root) Anywhere Anywhere old new
+    call = called_as (IsProper e.root) (IsProper e.root) (PutsThis e.root (last_of e file) (text file)) (PutsEntry e text) (IsFor (last_of e file) (temp_of e token file)) (IsKeeping e token) (IsTidy e.root) (IsTidy e.root) Anywhere Anywhere old new
         (λ t s m given. given) (λ t s m owed. (owed.0, renames_file e text file s m owed.1)) (for_keeping e token file) (λ s tidy. tidy) (λ s post. tt) keeps.call;
     kept = keeps.kept;
-    skipped = λ is ready. touched_as token (UsesNames (last_of e file) (temp_of e token file)) (UsesEntry e token) (names_used e token file) (since old new) (keeps.skipped is ready);
+    skipped = λ is ready. touched_as token (UsesNames (last_of e file) (temp_of e token file)) (UsesEntry e token) (names_used e token file) (moved old new) (keeps.skipped is ready);
   }
 
-  pub part_alone : (text : EntryFile → List ℕ) → IsPublished (last_of e file) (temp_of e token file) (text file) (now old) (now new) → HasFiles e token text (λ other. other ≡ file) (now old) (now new)
-  part_alone text here = record {
-    has = λ other e'. ap (λ f. bytes_at (now new) (last_of e f)) e' ∙ here.has ∙ ap (λ f. Some (text f)) (sym e');
-    gone = λ other e'. ap (λ f. place_at (now new) (temp_of e token f)) e' ∙ here.gone;
+  pub part_alone : (text : EntryFile → List ℕ) (t : List ℕ) → IsPublished (last_of e file) (temp_of e t file) (text file) (state old) (state new) → HasFiles e t text (λ other. other ≡ file) (state old) (state new)
+  part_alone text t here = record {
+    has = λ other e'. ap (λ f. bytes_at (state new) (last_of e f)) e' ∙ here.has ∙ ap (λ f. Some (text f)) (sym e');
+    gone = λ other e'. ap (λ f. place_at (state new) (temp_of e t f)) e' ∙ here.gone;
     beside = λ p apart. here.beside p (λ used. apart (file, refl, used));
   }
 
 -- nothing was done
-pub nothing_keeps : (e : Entry) (token : List ℕ) (text : EntryFile → List ℕ) (Ready : State → Type 0) (Done : Trace → Type 0) (h : History) → Keeps e token text Ready Done h h keep.NoMemory
-nothing_keeps e token text Ready Done h = record {
-  call = not_called (IsProper e.root) (PutsEntry e text) token (IsKeeping e token) (IsTidy e.root) Anywhere h (λ s tidy. tt);
+pub nothing_filed : (e : Entry) (file : EntryFile) (bytes : List ℕ) (Ready : State → Type 0) (v : FolderView) → KeepsFile e file bytes Ready keep.NoMemory v v
+nothing_filed e file bytes Ready v = record {
+  call = not_called (IsProper e.root) (PutsThis e.root (last_of e file) bytes) (IsFor (last_of e file) (temp_of e v.token file)) (IsTidy e.root) Anywhere v (λ s tidy. tt);
+  kept = λ (is : keep.NoMemory ≡ keep.Kept). absurd (cc);
+  skipped = λ (is : keep.NoMemory ≡ keep.Skipped). absurd (cc);
+}
+
+pub nothing_keeps : (e : Entry) (text : EntryFile → List ℕ) (Ready : State → Type 0) (Done : Trace → Type 0) (v : FolderView) → Keeps e text Ready Done keep.NoMemory v v
+nothing_keeps e text Ready Done v = record {
+  call = not_called (IsProper e.root) (PutsEntry e text) (IsKeeping e v.token) (IsTidy e.root) Anywhere v (λ s tidy. tt);
   kept = λ (is : keep.NoMemory ≡ keep.Kept). absurd (cc);
   skipped = λ (is : keep.NoMemory ≡ keep.Skipped). absurd (cc);
 }
@@ -127,50 +138,57 @@ includes_left step xs ys has = (has.0, has.1 ++ ys, ap (λ (l : Trace). l ++ ys)
 pub includes_right : (step : Event) (xs ys : Trace) → Includes step ys → Includes step (xs ++ ys)
 includes_right step xs ys has = (xs ++ has.0, has.1, ap (λ (l : Trace). xs ++ l) has.2 ∙ sym (append_assoc xs has.0 (step ∷ has.1)))
 
-pub keeps_then : (e : Entry) (token : List ℕ) (text : EntryFile → List ℕ) (Ready First Second : State → Type 0) (Done Put More : Trace → Type 0) (old mid new : History) (r : Keep) → GoesOn old mid → GoesOn mid new →
-    (Ready (now old) → Second (now mid) ⊎ TouchedByOther token (UsesEntry e token) (since old mid)) → ((xs ys : Trace) → Put xs → More ys → Done (xs ++ ys)) →
-    Keeps e token text First Put old mid keep.Kept → Keeps e token text Second More mid new r → Keeps e token text Ready Done old new r
-keeps_then e token text Ready First Second Done Put More old mid new r goes on ready done a b =
-    let tidy = IsTidy e.root in
-    let parts = since_then old mid new (since old mid) (since mid new) (went_since old mid goes) (went_since mid new on) in
+-- a later part, by the token of the first
+pub keeps_as : (e : Entry) (text : EntryFile → List ℕ) (Ready : State → Type 0) (Done : Trace → Type 0) (r : Keep) (mid new : FolderView) (token : List ℕ) → mid.token ≡ token → Keeps e text Ready Done r mid new
+    → Called (IsProper e.root) (PutsEntry e text) (IsKeeping e token) (IsTidy e.root) Anywhere mid new
+keeps_as e text Ready Done r mid new mine same b =
+    subst (λ (u : List ℕ). Called (IsProper e.root) (PutsEntry e text) (IsKeeping e u) (IsTidy e.root) Anywhere mid new) same b.call
+
+pub keeps_then : (e : Entry) (text : EntryFile → List ℕ) (Ready First Second : State → Type 0) (Done Put More : Trace → Type 0) (old mid new : FolderView) (r : Keep) →
+    (Ready (state old) → Second (state mid) ⊎ TouchedByOther old.token (UsesEntry e old.token) (moved old mid)) → ((xs ys : Trace) → Put xs → More ys → Done (xs ++ ys)) →
+    Keeps e text First Put keep.Kept old mid → Keeps e text Second More r mid new → Keeps e text Ready Done r old new
+keeps_then e text Ready First Second Done Put More old mid new r ready done a b =
+    let goes = a.call.went in
+    let on = b.call.went in
     record {
-      call = then_called (IsProper e.root) (PutsEntry e text) token (IsKeeping e token) (IsTidy e.root) (IsTidy e.root) Anywhere old mid new
-          (called_for (IsProper e.root) (PutsEntry e text) token (IsKeeping e token) (IsKeeping e token) (λ s. IsTidy e.root s × IsTidy e.root s) (IsTidy e.root) (λ s. IsTidy e.root s × Anywhere s) (IsTidy e.root) old mid (λ m is. is) (λ s t. (t, t)) (λ s both. both.0)
-          (called_keeps (IsProper e.root) (PutsEntry e text) token (IsKeeping e token) (IsTidy e.root) (IsTidy e.root) Anywhere old mid (tidy_carried e.root) a.call))
-          b.call;
-      kept = λ is. subst Done (sym parts) (done (since old mid) (since mid new) (a.kept refl) (b.kept is));
+      call = then_called (IsProper e.root) (PutsEntry e text) (IsKeeping e old.token) (IsTidy e.root) (IsTidy e.root) Anywhere old mid new
+          (called_for (IsProper e.root) (PutsEntry e text) (IsKeeping e old.token) (IsKeeping e old.token) (λ s. IsTidy e.root s × IsTidy e.root s) (IsTidy e.root) (λ s. IsTidy e.root s × Anywhere s) (IsTidy e.root) old mid (λ m is. is) (λ s t. (t, t)) (λ s both. both.0)
+          (called_keeps (IsProper e.root) (PutsEntry e text) (IsKeeping e old.token) (IsTidy e.root) (IsTidy e.root) Anywhere old mid (tidy_carried e.root) a.call))
+          (keeps_as e text Second More r mid new old.token goes.token b);
+      kept = λ is. subst Done (sym (moved_then old mid new goes on)) (done (moved old mid) (moved mid new) (a.kept refl) (b.kept is));
       skipped = λ is was.
           ⊎_elim
-          (λ (now_ready : Second (now mid)). touched_later token (UsesEntry e token) old mid new goes on (b.skipped is now_ready))
-          (λ (touched : TouchedByOther token (UsesEntry e token) (since old mid)). touched_sooner token (UsesEntry e token) old mid new goes on touched)
+          (λ (now_ready : Second (state mid)).
+          touched_later (UsesEntry e old.token) old mid new goes on
+          (subst (λ (u : List ℕ). TouchedByOther mid.token (UsesEntry e u) (moved mid new)) goes.token (b.skipped is now_ready)))
+          (λ (touched : TouchedByOther old.token (UsesEntry e old.token) (moved old mid)). touched_sooner (UsesEntry e old.token) old mid new goes on touched)
           (ready was);
     }
 
 -- a part that wasn't kept ends the keeping
-pub keeps_ends : (e : Entry) (token : List ℕ) (text : EntryFile → List ℕ) (Ready First : State → Type 0) (Done Put : Trace → Type 0) (old new : History) (r : Keep) → ((s : State) → Ready s → First s) → (r ≡ keep.Kept → ⊥) → Keeps e token text First Put old new r → Keeps e token text Ready Done old new r
-keeps_ends e token text Ready First Done Put old new r ready not_kept a = record {
+pub keeps_ends : (e : Entry) (text : EntryFile → List ℕ) (Ready First : State → Type 0) (Done Put : Trace → Type 0) (old new : FolderView) (r : Keep) → ((s : State) → Ready s → First s) → (r ≡ keep.Kept → ⊥) → Keeps e text First Put r old new → Keeps e text Ready Done r old new
+keeps_ends e text Ready First Done Put old new r ready not_kept a = record {
   call = a.call;
   kept = λ is. absurd (not_kept is);
-  skipped = λ is was. a.skipped is (ready (now old) was);
+  skipped = λ is was. a.skipped is (ready (state old) was);
 }
 
 -- what is ready for a file stays so while another file is published, or another touched it
-pub ready_on : (e : Entry) (token : List ℕ) (j k : EntryFile) → k ≢ j → (old new : History) → GoesOn old new → OwnMoves token (IsFor (last_of e j) (temp_of e token j)) (since old new) → IsReadyFor e token k (now old) → IsReadyFor e token k (now new) ⊎ TouchedByOther token (UsesEntry e token) (since old new)
-ready_on e token j k ne old new goes own ready =
-    let went = went_since old new goes in
-    let K : Move → Type 0 = IsFor (last_of e j) (temp_of e token j) in
-    let same : (x : PathView) → UsesEntry e token x → x ≢ last_of e j → x ≢ temp_of e token j → (place_at (now new) x ≡ place_at (now old) x) ⊎ TouchedByOther token (UsesEntry e token) (since old new) =
-    λ x uses a b. until_end token (UsesEntry e token) (IsFor (last_of e j) (temp_of e token j)) x uses (for_apart (last_of e j) (temp_of e token j) x a b) old new (since old new) went own in
+pub ready_on : (e : Entry) (j k : EntryFile) → k ≢ j → (old new : FolderView) → Moves (IsFor (last_of e j) (temp_of e old.token j)) old new → IsReadyFor e old.token k (state old) → IsReadyFor e old.token k (state new) ⊎ TouchedByOther old.token (UsesEntry e old.token) (moved old new)
+ready_on e j k ne old new moves ready =
+    let token = old.token in
+    let same : (x : PathView) → UsesEntry e old.token x → x ≢ last_of e j → x ≢ temp_of e old.token j → (place_at (state new) x ≡ place_at (state old) x) ⊎ TouchedByOther old.token (UsesEntry e old.token) (moved old new) =
+    λ x uses a b. until_end (UsesEntry e old.token) (IsFor (last_of e j) (temp_of e old.token j)) x uses (for_apart (last_of e j) (temp_of e old.token j) x a b) old new moves in
     ⊎_elim
-    (λ (a : place_at (now new) (entry_path e) ≡ place_at (now old) (entry_path e)).
+    (λ (a : place_at (state new) (entry_path e) ≡ place_at (state old) (entry_path e)).
     ⊎_elim
-    (λ (b : place_at (now new) (last_of e k) ≡ place_at (now old) (last_of e k)).
+    (λ (b : place_at (state new) (last_of e k) ≡ place_at (state old) (last_of e k)).
     ⊎_elim
-    (λ (d : place_at (now new) (temp_of e token k) ≡ place_at (now old) (temp_of e token k)).
+    (λ (d : place_at (state new) (temp_of e old.token k) ≡ place_at (state old) (temp_of e old.token k)).
     inl (record {
-      home = folder_as (now old) (now new) (entry_path e) a ∙ ready.home;
-      last_free = folder_as (now old) (now new) (last_of e k) b ∙ ready.last_free;
-      temp_free = folder_as (now old) (now new) (temp_of e token k) d ∙ ready.temp_free;
+      home = folder_as (state old) (state new) (entry_path e) a ∙ ready.home;
+      last_free = folder_as (state old) (state new) (last_of e k) b ∙ ready.last_free;
+      temp_free = folder_as (state old) (state new) (temp_of e old.token k) d ∙ ready.temp_free;
     }))
     (λ t. inr t)
     (same (temp_of e token k) (inl (k, inr refl)) (temp_not_last e token k j ne) (temp_not_temp e token k j ne)))
@@ -199,20 +217,20 @@ files_then e token text One More All s t u apart split one more a b = record {
         ⊎_elim (λ (is : temp_of e token file ≡ last_of e used.0). temp_not_last e token file used.0 (apart file used.0 mine used.1) is) (λ (is : temp_of e token file ≡ temp_of e token used.0). temp_not_temp e token file used.0 (apart file used.0 mine used.1) is) used.2
 
 -- the files after the output are ready while that is published, or another touched them
-pub moments_ready : (e : Entry) (token : List ℕ) (old new : History) → GoesOn old new → OwnMoves token (IsFor (last_of e Output) (temp_of e token Output)) (since old new) → AreReady e token IsAnyFile (now old) → AreReady e token IsMoments (now new) ⊎ TouchedByOther token (UsesEntry e token) (since old new)
-moments_ready e token old new goes own ready =
+pub moments_ready : (e : Entry) (old new : FolderView) → Moves (IsFor (last_of e Output) (temp_of e old.token Output)) old new → AreReady e old.token IsAnyFile (state old) → AreReady e old.token IsMoments (state new) ⊎ TouchedByOther old.token (UsesEntry e old.token) (moved old new)
+moments_ready e old new moves ready =
     ⊎_elim
-    (λ (a : IsReadyFor e token Metadata (now new)).
+    (λ (a : IsReadyFor e old.token Metadata (state new)).
     ⊎_elim
-    (λ (b : IsReadyFor e token Access (now new)). inl (both a b))
-    (λ (t : TouchedByOther token (UsesEntry e token) (since old new)). inr t)
-    (ready_on e token Output Access (λ (is : Access ≡ Output). cc) old new goes own (ready Access tt)))
-    (λ (t : TouchedByOther token (UsesEntry e token) (since old new)). inr t)
-    (ready_on e token Output Metadata (λ (is : Metadata ≡ Output). cc) old new goes own (ready Metadata tt))
+    (λ (b : IsReadyFor e old.token Access (state new)). inl (both a b))
+    (λ (t : TouchedByOther old.token (UsesEntry e old.token) (moved old new)). inr t)
+    (ready_on e Output Access (λ (is : Access ≡ Output). cc) old new moves (ready Access tt)))
+    (λ (t : TouchedByOther old.token (UsesEntry e old.token) (moved old new)). inr t)
+    (ready_on e Output Metadata (λ (is : Metadata ≡ Output). cc) old new moves (ready Metadata tt))
   where
-    both : IsReadyFor e token Metadata (now new) → IsReadyFor e token Access (now new) → AreReady e token IsMoments (now new)
-    both a b file (inl is) = subst (λ f. IsReadyFor e token f (now new)) (sym is) a
-    both a b file (inr is) = subst (λ f. IsReadyFor e token f (now new)) (sym is) b
+    both : IsReadyFor e old.token Metadata (state new) → IsReadyFor e old.token Access (state new) → AreReady e old.token IsMoments (state new)
+    both a b file (inl is) = subst (λ f. IsReadyFor e old.token f (state new)) (sym is) a
+    both a b file (inr is) = subst (λ f. IsReadyFor e old.token f (state new)) (sym is) b
 
 pub output_apart : (j k : EntryFile) → j ≡ Output → IsMoments k → j ≢ k
 output_apart j k is (inl e) same = let apart : Output ≡ Metadata = sym is ∙ same ∙ e in cc
@@ -233,7 +251,7 @@ and_right false b e = cc
 
 -- the folder and all its files, alone
 pub entry_has : (e : Entry) (token : List ℕ) (text : EntryFile → List ℕ) (s t u : State) → IsState u → IsBeside (λ p. p ≡ entry_path e) s t → HasFiles e token text IsAnyFile t u → HasEntry e token text s u
-entry_has e token text s t u ok made files = record {
+entry_has e mine text s t u ok made files = record {
   folder = subst (λ p. is_folder u p ≡ true) (last_parent e Output)
       (and_right (not (is_fixed (last_of e Output))) (is_folder u (parent (last_of e Output))) (ok.parents (last_of e Output) (last_free e Output) (named_some u (place_at u (last_of e Output)) (text Output) (files.has Output tt))));
   has = λ file. files.has file tt;

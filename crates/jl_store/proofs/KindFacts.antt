@@ -3,7 +3,8 @@ use Rattle.std.proofs.Common.{◌≢◌, ℕ, List, refl, sym, ◌∙◌}
 use Rattle.jl_text.specs.Paths.{PathView}
 use Rattle.jl_folder.specs.declared.moves.Move.{Move}
 use Rattle.jl_folder.specs.declared.moves.Move.TheVariants.{MakeDir, Create, Append, Rename, Remove, RemoveDir}
-use Rattle.jl_folder.specs.State.{State, History}
+use Rattle.jl_folder.specs.State.{State}
+use Rattle.jl_folder.specs.Views.{FolderView}
 use Rattle.jl_rely.specs.Claims.{Called}
 use Rattle.jl_rely.proofs.Touched.{IsApart}
 use Rattle.jl_rely.proofs.Composed.{called_kinds}
@@ -56,9 +57,9 @@ renames_none last bytes temp s (Remove p) is = tt
 renames_none last bytes temp s (RemoveDir p) is = tt
 
 -- a call that keeps to the temporary name is one of publishing
-pub as_publishing : (root : PathView) (token : List ℕ) (last temp : PathView) (bytes : List ℕ) (Kinds : Move → Type 0) (Pre Post : State → Type 0) (old new : History) → ((m : Move) → Kinds m → IsOnName temp m) → Called (IsProper root) (IsProper root) token Kinds Pre Post old new → Called (IsProper root) (PutsThis root last bytes) token (IsFor last temp) Pre Post old new
-as_publishing root token last temp bytes Kinds Pre Post old new on call =
-    called_kinds (IsProper root) (IsProper root) (PutsThis root last bytes) token Kinds (IsFor last temp) Pre Post old new
+pub as_publishing : (root last temp : PathView) (bytes : List ℕ) (Kinds : Move → Type 0) (Pre Post : State → Type 0) (old new : FolderView) → ((m : Move) → Kinds m → IsOnName temp m) → Called (IsProper root) (IsProper root) Kinds Pre Post old new → Called (IsProper root) (PutsThis root last bytes) (IsFor last temp) Pre Post old new
+as_publishing root last temp bytes Kinds Pre Post old new on call =
+    called_kinds (IsProper root) (IsProper root) (PutsThis root last bytes) Kinds (IsFor last temp) Pre Post old new
     (λ s m is proper. (proper, renames_none last bytes temp s m (on m is))) (λ m is. on_name_for last temp m (on m is)) call
 
 pub on_create : (name : PathView) (n : ℕ) → IsOnName name (Create name n)

@@ -1,4 +1,5 @@
 pub mod Answering
+pub mod CallMoves
 pub mod Causing
 pub mod CheckLemmas
 pub mod Cleared
@@ -22,11 +23,14 @@ pub mod LookLemmas
 pub mod LookTidy
 pub mod Making
 pub mod NamePlaces
+pub mod Orders
 pub mod PartWarnings
+pub mod Putting
 pub mod Readiness
 pub mod SkipCauses
 pub mod StorePaths
 pub mod StoringLemmas
 pub mod TidyFolders
 pub mod Truths
+pub mod Turning
 pub mod Wholes

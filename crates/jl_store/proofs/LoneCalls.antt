@@ -2,9 +2,11 @@
 use Rattle.std.proofs.Common.{◌≡◌, ◌≢◌, ◌⊎◌, inl, inr, ⊎_elim, ℕ, true, not, List, [], ◌∷◌, Option, None, Some, is_some, refl, sym, ap, subst, ◌∙◌}
 use Rattle.jl_text.specs.Paths.{PathView, parent, is_fixed}
 use Rattle.jl_text.specs.Counts.{Rose}
-use Rattle.jl_streams.specs.Moments.{moment_of}
+use Rattle.jl_streams.specs.Moments.{moment_of, moments_after}
+use Rattle.jl_streams.specs.Views.{HostView}
 use Rattle.jl_folder.specs.declared.moves.Place.{Place}
-use Rattle.jl_folder.specs.State.{State, Trace, History, AtSome, place_at, is_folder, bytes_of, now, since}
+use Rattle.jl_folder.specs.State.{State, Trace, AtSome, place_at, is_folder, bytes_of}
+use Rattle.jl_folder.specs.Views.{FolderView, state, moved}
 use Rattle.jl_folder.specs.Calls.{Waits}
 use Rattle.jl_folder.specs.declared.moves.Move.{Move}
 use Rattle.jl_value.specs.Form.{tree_of}
@@ -16,7 +18,7 @@ use Rattle.jl_entry.specs.Codes.{code_text}
 use Rattle.jl_rely.specs.Steps.{StepFact, AllSteps, IsLone}
 use Rattle.jl_rely.specs.Claims.{GoesOn, Called, Anywhere}
 use Rattle.jl_rely.specs.Touches.{TouchedByOther}
-use Rattle.jl_rely.proofs.Since.{now_went, went_since}
+use Rattle.jl_rely.proofs.Since.{state_after}
 use Rattle.jl_rely.proofs.Traces.{AllSteps-weaken}
 use Rattle.jl_protocol.specs.Proper.{IsProper, IsLawful}
 use Rattle.jl_protocol.specs.Tidy.{IsTidy, IsSound}
@@ -29,14 +31,14 @@ use Rattle.jl_store.specs.Checking.{function_path, code_path, code_temp}
 use Rattle.jl_store.specs.declared.checks.CodeCheck.{CodeCheck}
 use Rattle.jl_store.specs.declared.checks.CodeCheck.TheVariants as check
 use Rattle.jl_store.specs.Keeping.{HasEntry, last_of, temp_of, texts}
-use Rattle.jl_store.specs.Looking.{StandsWith, Stands, LooksTidy}
-use Rattle.jl_store.specs.Next.{Asked, entry_asked, output_asked, AnswersAlone, AfterCheck, ChecksAlone, LeavesNext, AreTimed}
+use Rattle.jl_store.specs.Asked.{Asked, output_asked}
+use Rattle.jl_store.specs.Looking.{StandsWith, Stands, HadNone, LooksTidy}
+use Rattle.jl_store.specs.Next.{entry_asked, AnswersAlone, AfterCheck, ChecksAlone, LeavesNext, AreTimed, LeftAfter}
 use Rattle.jl_store.specs.Parts.{HasFolder}
 use Rattle.jl_store.specs.declared.answer.Keep.{Keep}
 use Rattle.jl_store.specs.declared.answer.Keep.TheVariants as keep
 use Rattle.jl_store.specs.declared.cached.Cached.{Cached}
 use Rattle.jl_store.specs.declared.cached.Cached.TheVariants.{Hit, Computed, Error, NoMemory}
-use Rattle.jl_store.specs.declared.found.Look.{Look}
 use Rattle.jl_store.specs.declared.found.Look.TheVariants as look
 use Rattle.jl_store.specs.declared.memory.Warning.{Warning}
 use Rattle.jl_store.specs.declared.memory.WarnKind.{WarnKind}
@@ -68,18 +70,6 @@ kept_alone keep.NoMemory memory skipped fault = absurd (memory refl)
 -- ---- a look
 
 module _ (a : Asked) (s : State) where
-  -- a value that was found is that of the entry that stands
-  pub look_hit : (v : Value) (ws ws' : List Warning) (f f' : ℕ) → LooksTidy (look.Hit v) ws ws' a.function_name (output_asked a) a.code a.args f f' s [] → StandsWith (output_asked a) a.code a.args (tree_of v) s
-  look_hit v ws ws' f f' tidy = at_none s (StandsWith (output_asked a) a.code a.args (tree_of v)) tidy
-
-  -- where none was found, none stands
-  pub look_miss : (ws ws' : List Warning) (f f' : ℕ) → LooksTidy look.Miss ws ws' a.function_name (output_asked a) a.code a.args f f' s [] → (Rose f f' → ⊥) → Stands (output_asked a) a.code a.args s → ⊥
-  look_miss ws ws' f f' tidy rose =
-      ⊎_elim
-      (λ (at : AtSome s [] (λ (u : State). Stands (output_asked a) a.code a.args u → ⊥)). at_none s (λ (u : State). Stands (output_asked a) a.code a.args u → ⊥) at)
-      (λ (r : Rose f f'). absurd (rose r))
-      tidy.0
-
   some_place : (o : Option Place) (bytes : List ℕ) → bytes_of s o ≡ Some bytes → is_some o ≡ true
   some_place None bytes e = absurd cc
   some_place (Some k) bytes e = refl
@@ -91,40 +81,62 @@ module _ (a : Asked) (s : State) where
       let has = tidy.state.parents (output_asked a) free (some_place (place_at s (output_asked a)) stands.0 stands.1) in
       ap (is_folder s) (sym (last_parent (entry_asked a) Output)) ∙ and_second (not (is_fixed (output_asked a))) (is_folder s (parent (output_asked a))) has
 
--- the same of the state at its beginning, where no other moved
-pub look_alone : (a : Asked) (token : List ℕ) (r : Look) (ws ws' : List Warning) (f f' : ℕ) (old new : History) → Waits token old new → IsLone token (since old new) → IsTidy a.root (now old)
-    → (IsTidy a.root (now old) → AllSteps (IsProper a.root) (now old) (since old new) → LooksTidy r ws ws' a.function_name (output_asked a) a.code a.args f f' (now old) (since old new))
-    → LooksTidy r ws ws' a.function_name (output_asked a) a.code a.args f f' (now old) []
-look_alone a token r ws ws' f f' old new waits lone tidy looks =
-    let none = no_moves token old new waits lone in
-    subst (λ (xs : Trace). LooksTidy r ws ws' a.function_name (output_asked a) a.code a.args f f' (now old) xs) none
-    (looks tidy (subst (AllSteps (IsProper a.root) (now old)) (sym none) (no_steps (IsProper a.root) (now old))))
+-- a look during which no other moved
+module _ (a : Asked) (ws ws' : List Warning) (old new : FolderView) (waits : Waits old new) (lone : IsLone old.token (moved old new)) (tidy : IsTidy a.root (state old)) where
+  none : moved old new ≡ []
+  none = no_moves old new waits lone
+
+  orderly : IsOrderly a.root old new
+  orderly = (tidy, subst (AllSteps (IsProper a.root) (state old)) (sym none) (no_steps (IsProper a.root) (state old)))
+
+  -- a value that was found is that of the entry that stands
+  pub look_hit : (v : Value) → (IsOrderly a.root old new → LooksTidy (look.Hit v) a ws ws' old new) → StandsWith (output_asked a) a.code a.args (tree_of v) (state old)
+  look_hit v looks =
+      at_none (state old) (StandsWith (output_asked a) a.code a.args (tree_of v)) (subst (λ (xs : Trace). AtSome (state old) xs (StandsWith (output_asked a) a.code a.args (tree_of v))) none (looks orderly))
+
+  -- where none was found, none stands
+  pub look_miss : (IsOrderly a.root old new → LooksTidy look.Miss a ws ws' old new) → (Rose old.faults new.faults → ⊥) → Stands (output_asked a) a.code a.args (state old) → ⊥
+  look_miss looks rose =
+      ⊎_elim
+      (λ (at : HadNone a old new).
+      at_none (state old) (λ (u : State). Stands (output_asked a) a.code a.args u → ⊥) (subst (λ (xs : Trace). AtSome (state old) xs (λ (u : State). Stands (output_asked a) a.code a.args u → ⊥)) none at))
+      (λ (r : Rose old.faults new.faults). absurd (rose r))
+      (looks orderly).0
 
 -- ---- an answer
 
 -- what an answer leaves, with its moments
-abbrev pub LeavesAnswer : Cached → Asked → State → State → (told : Type 0) → (moments : List ℕ) → Type 0
-LeavesAnswer r a s t told moments = (duration : ℕ) × (moment : ℕ) × AnswersAlone r a duration moment s t × (told → AreTimed r duration moment moments)
+abbrev pub LeavesAnswer : Cached → Asked → State → State → HostView → Type 0
+LeavesAnswer r a s t host = (duration : ℕ) × (moment : ℕ) × AnswersAlone r a duration moment s t × (host.told → AreTimed r duration moment host)
 
-module _ (a : Asked) (s t : State) (told : Type 0) (moments : List ℕ) where
-  pub memory_leaves : LeavesAnswer NoMemory a s t told moments
+module _ (a : Asked) (s t : State) (host : HostView) where
+  pub memory_leaves : LeavesAnswer NoMemory a s t host
   memory_leaves = (0, 0, tt, λ is. tt)
 
   pub found_leaves : (r : Cached) (v : Value) → (r ≡ Hit v) ⊎ (r ≡ NoMemory) → StandsWith (output_asked a) a.code a.args (tree_of v) s
-      → (r ≡ Hit v → (moment : ℕ) × IsPublished (last_of (entry_asked a) Access) (temp_of (entry_asked a) a.token Access) (access_text moment) s t × (told → moment ≡ moment_of moments))
-      → LeavesAnswer r a s t told moments
-  found_leaves r v (inl e) stands alone = let h = alone e in subst (λ (k : Cached). LeavesAnswer k a s t told moments) (sym e) (0, h.0, (stands, h.1), h.2)
-  found_leaves r v (inr e) stands alone = subst (λ (k : Cached). LeavesAnswer k a s t told moments) (sym e) memory_leaves
+      → (r ≡ Hit v → (moment : ℕ) × IsPublished (last_of (entry_asked a) Access) (temp_of (entry_asked a) a.token Access) (access_text moment) s t × (host.told → moment ≡ moment_of host.moments))
+      → LeavesAnswer r a s t host
+  found_leaves r v (inl e) stands alone = let h = alone e in subst (λ (k : Cached). LeavesAnswer k a s t host) (sym e) (0, h.0, (stands, h.1), h.2)
+  found_leaves r v (inr e) stands alone = subst (λ (k : Cached). LeavesAnswer k a s t host) (sym e) memory_leaves
 
   pub computed_leaves : (r : Cached) (v : Value) (duration moment : ℕ) → (r ≡ Computed v) ⊎ (r ≡ NoMemory) → (Stands (output_asked a) a.code a.args s → ⊥)
       → (r ≡ Computed v → HasEntry (entry_asked a) a.token (texts a.code a.args (tree_of v) duration moment) s t)
-      → (told → AreTimed (Computed v) duration moment moments)
-      → LeavesAnswer r a s t told moments
-  computed_leaves r v duration moment (inl e) stands alone timed = subst (λ (k : Cached). LeavesAnswer k a s t told moments) (sym e) (duration, moment, (stands, alone e), timed)
-  computed_leaves r v duration moment (inr e) stands alone timed = subst (λ (k : Cached). LeavesAnswer k a s t told moments) (sym e) memory_leaves
+      → (host.told → AreTimed (Computed v) duration moment host)
+      → LeavesAnswer r a s t host
+  computed_leaves r v duration moment (inl e) stands alone timed = subst (λ (k : Cached). LeavesAnswer k a s t host) (sym e) (duration, moment, (stands, alone e), timed)
+  computed_leaves r v duration moment (inr e) stands alone timed = subst (λ (k : Cached). LeavesAnswer k a s t host) (sym e) memory_leaves
 
-pub error_leaves : (a : Asked) (s : State) (told : Type 0) (moments : List ℕ) (e : TaskError) → (Stands (output_asked a) a.code a.args s → ⊥) → LeavesAnswer (Error e) a s s told moments
-error_leaves a s told moments e stands = (0, 0, (stands, λ p unused. (refl, refl)), λ is. tt)
+pub error_leaves : (a : Asked) (s : State) (host : HostView) (e : TaskError) → (Stands (output_asked a) a.code a.args s → ⊥) → LeavesAnswer (Error e) a s s host
+error_leaves a s host e stands = (0, 0, (stands, λ p unused. (refl, refl)), λ is. tt)
+
+-- how many moments are left
+pub found_clock : (r : Cached) (v : Value) (old new : HostView) → (r ≡ Hit v) ⊎ (r ≡ NoMemory) → new.moments ≡ moments_after old.moments → LeftAfter r old new
+found_clock r v old new (inl e) left = subst (λ (k : Cached). LeftAfter k old new) (sym e) left
+found_clock r v old new (inr e) left = subst (λ (k : Cached). LeftAfter k old new) (sym e) tt
+
+pub computed_clock : (r : Cached) (v : Value) (old new : HostView) → (r ≡ Computed v) ⊎ (r ≡ NoMemory) → new.moments ≡ moments_after (moments_after old.moments) → LeftAfter r old new
+computed_clock r v old new (inl e) left = subst (λ (k : Cached). LeftAfter k old new) (sym e) left
+computed_clock r v old new (inr e) left = subst (λ (k : Cached). LeftAfter k old new) (sym e) tt
 
 -- ---- the whole
 
@@ -146,40 +158,40 @@ leaves_next a (Error e) duration moment s u t checked answered = (u, checked, an
 leaves_next a NoMemory duration moment s u t checked answered = tt
 
 -- for want of memory nothing is claimed
-pub nothing_next : (a : Asked) (s t : State) (told : Type 0) (moments : List ℕ) → (duration : ℕ) × (moment : ℕ) × LeavesNext NoMemory a duration moment s t × (told → AreTimed NoMemory duration moment moments)
-nothing_next a s t told moments = (0, 0, tt, λ is. tt)
+pub nothing_next : (a : Asked) (s t : State) (host : HostView) → (duration : ℕ) × (moment : ℕ) × LeavesNext NoMemory a duration moment s t × (host.told → AreTimed NoMemory duration moment host)
+nothing_next a s t host = (0, 0, tt, λ is. tt)
 
 -- a call that is proper throughout leaves a tidy state tidy, where no other moved
-pub lone_orderly : (root : PathView) (Owed : StepFact) (token : List ℕ) (Kinds : Move → Type 0) (old new : History) → ((t : List ℕ) (s : State) (m : Move) → Owed t s m → IsProper root t s m)
-    → Called (IsProper root) Owed token Kinds (IsTidy root) Anywhere old new → IsLone token (since old new) → IsTidy root (now old) → IsOrderly root old new
-lone_orderly root Owed token Kinds old new proper call lone tidy = (
+pub lone_orderly : (root : PathView) (Owed : StepFact) (Kinds : Move → Type 0) (old new : FolderView) → ((t : List ℕ) (s : State) (m : Move) → Owed t s m → IsProper root t s m)
+    → Called (IsProper root) Owed Kinds (IsTidy root) Anywhere old new → IsLone old.token (moved old new) → IsTidy root (state old) → IsOrderly root old new
+lone_orderly root Owed Kinds old new proper call lone tidy = (
   tidy,
-  lone_owed (IsProper root) Owed token proper (now old) (since old new) lone (call.owes tidy),
+  lone_owed (IsProper root) Owed old.token proper (state old) (moved old new) lone (call.owes tidy),
 )
 
-pub tidy_after : (root : PathView) (old new : History) → GoesOn old new → IsOrderly root old new → IsTidy root (now new)
-tidy_after root old new goes orderly = subst (IsTidy root) (sym (now_went old new (since old new) (went_since old new goes))) (tidy_at_end root (now old) (since old new) goes.lawful orderly.1 orderly.0)
+pub tidy_after : (root : PathView) (old new : FolderView) → GoesOn old new → IsOrderly root old new → IsTidy root (state new)
+tidy_after root old new goes orderly = subst (IsTidy root) (sym (state_after old new goes)) (tidy_at_end root (state old) (moved old new) goes.lawful orderly.1 orderly.0)
 
 -- ---- warnings
 
-module _ (a : Asked) (tells : Type 0) (f f' : ℕ) (old new : History) (told : tells) (orderly : IsOrderly a.root old new) (untouched : TouchedByOther a.token (UsesCall a) (since old new) → ⊥) (rose : Rose f f' → ⊥) where
-  one_other : (k : WarnKind) → IsCaused k a tells f f' old new → k ≡ NotMine
+module _ (a : Asked) (old new : FolderView) (told : old.told) (orderly : IsOrderly a.root old new) (untouched : TouchedByOther a.token (UsesCall a) (moved old new) → ⊥) (rose : Rose old.faults new.faults → ⊥) where
+  one_other : (k : WarnKind) → IsCaused k a old new → k ≡ NotMine
   one_other LoadFault caused = absurd (rose caused)
   one_other StoreFault caused = absurd (rose caused)
   one_other NotMine caused = refl
-  one_other Damaged caused = absurd ((caused told).1 orderly)
-  one_other Skipped caused = absurd (⊎_elim (λ (t : TouchedByOther a.token (UsesCall a) (since old new)). untouched t) (λ (r : Rose f f'). rose r) (caused told orderly))
+  one_other Damaged caused = absurd (caused.1 told orderly)
+  one_other Skipped caused = absurd (⊎_elim (λ (t : TouchedByOther a.token (UsesCall a) (moved old new)). untouched t) (λ (r : Rose old.faults new.faults). rose r) (caused told orderly))
 
-  all_others : (ws : List Warning) → AreCaused ws a tells f f' old new → AreOthers ws
+  all_others : (ws : List Warning) → AreCaused ws a old new → AreOthers ws
   unfolding AreCaused AreOthers
   all_others [] caused = tt
   all_others (w ∷ ws) caused = (one_other w.kind caused.0.2, all_others ws caused.1)
 
 -- where no other moved and no fault rose, a call that is lawful throughout warns of others' entries alone
-pub lone_warns : (a : Asked) (answer : Answers) (token : List ℕ) (tells : Type 0) (f f' : ℕ) (old new : History) (ws ws' : List Warning) → token ≡ a.token → tells → Warns ws ws' a tells f f' old new → Lawfully a.root answer token old new
-    → IsLone token (since old new) → IsSound a.root answer (now old) → (Rose f f' → ⊥) → WarnsOfOthers ws ws'
-lone_warns a answer token tells f f' old new ws ws' same told warns lawful lone sound rose =
-    let all = lone_owed (IsLawful a.root answer) (IsLawful a.root answer) token (λ t s m owed. owed) (now old) (since old new) lone (lawful.owes sound) in
-    let orderly : IsOrderly a.root old new = (sound.tidy, AllSteps-weaken (IsLawful a.root answer) (IsProper a.root) (λ t s m given. given.0) (now old) (since old new) all) in
-    let lone' = subst (λ (u : List ℕ). IsLone u (since old new)) same lone in
-    (warns.0, warns.1, all_others a tells f f' old new told orderly (lone_untouched a.token (UsesCall a) (since old new) lone') rose warns.0 warns.2)
+pub lone_warns : (a : Asked) (answer : Answers) (Kinds : Move → Type 0) (old new : FolderView) (ws ws' : List Warning) → old.token ≡ a.token → old.told → Warns a ws ws' old new → Lawfully a.root answer Kinds old new
+    → IsLone old.token (moved old new) → IsSound a.root answer (state old) → (Rose old.faults new.faults → ⊥) → WarnsOfOthers ws ws'
+lone_warns a answer Kinds old new ws ws' same told warns lawful lone sound rose =
+    let all = lone_owed (IsLawful a.root answer) (IsLawful a.root answer) old.token (λ t s m owed. owed) (state old) (moved old new) lone (lawful.owes sound) in
+    let orderly : IsOrderly a.root old new = (sound.tidy, AllSteps-weaken (IsLawful a.root answer) (IsProper a.root) (λ t s m given. given.0) (state old) (moved old new) all) in
+    let lone' = subst (λ (u : List ℕ). IsLone u (moved old new)) same lone in
+    (warns.0, warns.1, all_others a old new told orderly (lone_untouched a.token (UsesCall a) (moved old new) lone') rose warns.0 warns.2)

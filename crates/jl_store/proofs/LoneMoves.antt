@@ -6,17 +6,17 @@ use Rattle.jl_folder.specs.declared.moves.Place.{Place}
 use Rattle.jl_folder.specs.declared.moves.Place.TheVariants.{Folder, File}
 use Rattle.jl_folder.specs.declared.moves.Move.{Move}
 use Rattle.jl_folder.specs.declared.moves.Move.TheVariants.{MakeDir, Create, Append, Rename, Remove, RemoveDir}
-use Rattle.jl_folder.specs.State.{State, Trace, History, place_at, node_at, is_folder, is_folder_place, now, since, after, run}
+use Rattle.jl_folder.specs.State.{State, Trace, place_at, node_at, is_folder, is_folder_place, after, run}
+use Rattle.jl_folder.specs.Views.{FolderView, state, moved}
 use Rattle.jl_rely.specs.Steps.{AllSteps, OwnMoves, IsLone}
 use Rattle.jl_rely.specs.Touches.{Touches, TouchedByOther}
-use Rattle.jl_rely.proofs.Since.{now_went}
+use Rattle.jl_rely.specs.Claims.{Moves}
+use Rattle.jl_rely.proofs.Since.{state_after}
 use Rattle.jl_protocol.specs.Proper.{IsProper}
 use Rattle.jl_protocol.specs.Tidy.{IsTidy}
 use Rattle.jl_protocol.proofs.Kills.{tidy_at_end}
 use Rattle.jl_clear.proofs.Removals.{lone_all}
-use Rattle.jl_clear.specs.Doing.{Moves}
 use Rattle.jl_clear.specs.Taking.{IsBeside}
-use Rattle.jl_clear.proofs.DoingLemmas.{moves_went}
 use Rattle.jl_store.proofs.Drafts.{untouched, bytes_stay, beside_same, beside_then}
 
 -- ---- steps
@@ -74,16 +74,12 @@ folder_there s p e = ap (λ o. option_map_or is_folder_place o false) e
 
 -- ---- parts of a call
 
-module _ (token : List ℕ) (Kinds : Move → Type 0) (old new : History) (moves : Moves token Kinds old new) (lone : IsLone token (since old new)) where
-  -- the state at the end
-  ended : now new ≡ run (now old) (since old new)
-  ended = now_went old new (since old new) (moves_went token Kinds old new moves)
+module _ (Kinds : Move → Type 0) (old new : FolderView) (moves : Moves Kinds old new) (lone : IsLone old.token (moved old new)) where
+  pub part_beside : (Uses : PathView → Type 0) → IsWithin Kinds Uses → IsBeside Uses (state old) (state new)
+  part_beside Uses within = subst (IsBeside Uses (state old)) (sym (state_after old new moves.went)) (own_beside old.token Kinds Uses within (state old) (moved old new) lone moves.own)
 
-  pub part_beside : (Uses : PathView → Type 0) → IsWithin Kinds Uses → IsBeside Uses (now old) (now new)
-  part_beside Uses within = subst (IsBeside Uses (now old)) (sym ended) (own_beside token Kinds Uses within (now old) (since old new) lone moves.own)
+  pub part_proper : (root : PathView) → ((s : State) (m : Move) → Kinds m → IsProper root old.token s m) → AllSteps (IsProper root) (state old) (moved old new)
+  part_proper root proper = lone_all (IsProper root) old.token Kinds proper (state old) (moved old new) moves.own lone
 
-  pub part_proper : (root : PathView) → ((s : State) (m : Move) → Kinds m → IsProper root token s m) → AllSteps (IsProper root) (now old) (since old new)
-  part_proper root proper = lone_all (IsProper root) token Kinds proper (now old) (since old new) moves.own lone
-
-  pub part_tidy : (root : PathView) → ((s : State) (m : Move) → Kinds m → IsProper root token s m) → IsTidy root (now old) → IsTidy root (now new)
-  part_tidy root proper tidy = subst (IsTidy root) (sym ended) (tidy_at_end root (now old) (since old new) moves.lawful (part_proper root proper) tidy)
+  pub part_tidy : (root : PathView) → ((s : State) (m : Move) → Kinds m → IsProper root old.token s m) → IsTidy root (state old) → IsTidy root (state new)
+  part_tidy root proper tidy = subst (IsTidy root) (sym (state_after old new moves.went)) (tidy_at_end root (state old) (moved old new) moves.went.lawful (part_proper root proper) tidy)

@@ -4,13 +4,14 @@ use Rattle.jl_text.specs.Paths.{PathView}
 use Rattle.jl_folder.specs.declared.moves.Place.TheVariants.{Folder}
 use Rattle.jl_folder.specs.declared.moves.Move.{Move}
 use Rattle.jl_folder.specs.declared.moves.Move.TheVariants.{MakeDir, Create, Append, Rename, Remove, RemoveDir}
-use Rattle.jl_folder.specs.State.{State, History, place_at, now, since}
+use Rattle.jl_folder.specs.State.{State, place_at}
+use Rattle.jl_folder.specs.Views.{FolderView, state, moved}
 use Rattle.jl_rely.specs.Steps.{IsLone}
 use Rattle.jl_rely.specs.Touches.{TouchedByOther}
 use Rattle.jl_protocol.specs.Proper.{IsProper}
 use Rattle.jl_protocol.specs.Tidy.{IsTidy}
 use Rattle.jl_entry.specs.Names.{IsFunctionFolder}
-use Rattle.jl_clear.specs.Doing.{Moves}
+use Rattle.jl_rely.specs.Claims.{Moves}
 use Rattle.jl_store.specs.declared.folders.MadeFolders.TheVariants as made_folders
 use Rattle.jl_store.specs.Doing.{IsPrefix, IsMaking}
 use Rattle.jl_store.specs.Storing.{FoldersOr}
@@ -31,10 +32,10 @@ making_within path (RemoveDir p) is = absurd is
 pub making_proper : (root path : PathView) → IsFunctionFolder root path → (token : List ℕ) (s : State) (m : Move) → IsMaking path m → IsProper root token s m
 making_proper root path fun token s m is = (making_puts root path fun [] [] token s m is).0
 
-pub has_folders : (token : List ℕ) (root path : PathView) (old new : History) → IsFunctionFolder root path → IsTidy root (now old) → Moves token (IsMaking path) old new → IsLone token (since old new) → FoldersOr made_folders.Made token path old new → HasFolders path (now old) (now new)
-has_folders token root path old new fun tidy moves lone made = record {
+pub has_folders : (root path : PathView) (old new : FolderView) → IsFunctionFolder root path → IsTidy root (state old) → Moves (IsMaking path) old new → IsLone old.token (moved old new) → FoldersOr made_folders.Made path old new → HasFolders path (state old) (state new)
+has_folders root path old new fun tidy moves lone made = record {
   folders = λ p front.
-      prefix_folder (now new) (part_tidy token (IsMaking path) old new moves lone root (making_proper root path fun token) tidy).state path p front
-      (⊎_elim (λ (is : place_at (now new) path ≡ Some Folder). is) (λ (t : TouchedByOther token (λ q. IsPrefix q path) (since old new)). absurd (lone_untouched token (λ q. IsPrefix q path) (since old new) lone t)) made);
-  beside = part_beside token (IsMaking path) old new moves lone (λ p. IsPrefix p path) (making_within path);
+      prefix_folder (state new) (part_tidy (IsMaking path) old new moves lone root (making_proper root path fun old.token) tidy).state path p front
+      (⊎_elim (λ (is : place_at (state new) path ≡ Some Folder). is) (λ (t : TouchedByOther old.token (λ q. IsPrefix q path) (moved old new)). absurd (lone_untouched old.token (λ q. IsPrefix q path) (moved old new) lone t)) made);
+  beside = part_beside (IsMaking path) old new moves lone (λ p. IsPrefix p path) (making_within path);
 }

@@ -2,17 +2,16 @@
 use Rattle.std.proofs.Common.{◌≡◌, ◌⊎◌, inl, inr, ℕ, List, ◌++◌, refl, subst, ◌∙◌}
 use Rattle.jl_text.specs.Counts.{Rose}
 use Rattle.jl_text.specs.Paths.{PathView}
-use Rattle.jl_folder.specs.State.{State, Trace, History, now, since}
+use Rattle.jl_folder.specs.State.{State, Trace}
+use Rattle.jl_folder.specs.Views.{FolderView, state, moved}
 use Rattle.jl_value.specs.Key.{key_of}
 use Rattle.jl_value.specs.declared.key.Key.{Key}
 use Rattle.jl_entry.specs.declared.names.EntryFile.TheVariants.{Access}
-use Rattle.jl_rely.specs.Steps.{AllSteps}
 use Rattle.jl_rely.specs.Touches.{TouchedByOther}
 use Rattle.jl_rely.proofs.Touched.{touched_as}
-use Rattle.jl_protocol.specs.Proper.{IsProper}
-use Rattle.jl_protocol.specs.Tidy.{IsTidy}
+use Rattle.jl_store.specs.Asked.{Asked}
 use Rattle.jl_store.specs.Looking.{Missing, absent, failed, other, damaged, warnings_for, IsMissing, Looks, LooksTidy}
-use Rattle.jl_store.specs.Next.{Asked, entry_asked, output_asked}
+use Rattle.jl_store.specs.Next.{entry_asked}
 use Rattle.jl_store.specs.Warned.{IsOrderly, UsesCall}
 use Rattle.jl_store.specs.Parts.{AreWarned, IsCausedFrom, WarnsFrom, keep_warns, check_warns}
 use Rattle.jl_store.specs.declared.answer.Keep.{Keep}
@@ -48,21 +47,21 @@ module _ (a : Asked) (token : List ℕ) (same : token ≡ a.token) (xs : Trace) 
       touched_as a.token (UsesEntry (entry_asked a) a.token) (UsesCall a) (λ p u. inr u) xs
       (subst (λ (u : List ℕ). TouchedByOther u (UsesEntry (entry_asked a) u) xs) same t)
 
-module _ (a : Asked) (Ready : State → Type 0) (tells : Type 0) (f f' : ℕ) (old new : History) where
+module _ (a : Asked) (Ready : State → Type 0) (old new : FolderView) where
   abbrev Caused : WarnKind → Type 0
-  Caused kind = IsCausedFrom Ready kind a tells f f' old new
+  Caused kind = IsCausedFrom Ready kind a old new
 
   -- why a part was skipped
   abbrev pub Why : Type 0
-  Why = tells → IsOrderly a.root old new → Ready (now old) → TouchedByOther a.token (UsesCall a) (since old new)
+  Why = old.told → IsOrderly a.root old new → Ready (state old) → TouchedByOther a.token (UsesCall a) (moved old new)
 
-  pub keep_warned : (k : Keep) (key : Key) → key.0 ≡ key_of a.args → (k ≡ keep.Skipped → Why) → (k ≡ keep.Fault → Rose f f') → AreWarned Caused a.function_name (key_of a.args) (keep_warns k a.function_name key)
+  pub keep_warned : (k : Keep) (key : Key) → key.0 ≡ key_of a.args → (k ≡ keep.Skipped → Why) → (k ≡ keep.Fault → Rose old.faults new.faults) → AreWarned Caused a.function_name (key_of a.args) (keep_warns k a.function_name key)
   keep_warned keep.Kept key keyed skipped rose = warned_none Caused a.function_name (key_of a.args)
   keep_warned keep.Skipped key keyed skipped rose = warned_one Caused a.function_name (key_of a.args) _ refl keyed (λ t orderly ready. inl (skipped refl t orderly ready))
   keep_warned keep.Fault key keyed skipped rose = warned_one Caused a.function_name (key_of a.args) _ refl keyed (rose refl)
   keep_warned keep.NoMemory key keyed skipped rose = warned_none Caused a.function_name (key_of a.args)
 
-  pub check_warned : (c : CodeCheck) (key : Key) → key.0 ≡ key_of a.args → (c ≡ check.Skipped → Why) → ((c ≡ check.LoadFault) ⊎ (c ≡ check.StoreFault) → Rose f f') → AreWarned Caused a.function_name (key_of a.args) (check_warns c a.function_name key)
+  pub check_warned : (c : CodeCheck) (key : Key) → key.0 ≡ key_of a.args → (c ≡ check.Skipped → Why) → ((c ≡ check.LoadFault) ⊎ (c ≡ check.StoreFault) → Rose old.faults new.faults) → AreWarned Caused a.function_name (key_of a.args) (check_warns c a.function_name key)
   check_warned check.Same key keyed skipped rose = warned_none Caused a.function_name (key_of a.args)
   check_warned check.Written key keyed skipped rose = warned_none Caused a.function_name (key_of a.args)
   check_warned check.Cleared key keyed skipped rose = warned_none Caused a.function_name (key_of a.args)
@@ -74,17 +73,15 @@ module _ (a : Asked) (Ready : State → Type 0) (tells : Type 0) (f f' : ℕ) (o
   -- ---- a look
 
   module _ (ws ws' : List Warning) where
-    missing_warned : (why : Missing) → ws' ≡ ws ++ warnings_for why a.function_name a.args → IsMissing why tells (output_asked a) a.code a.args f f' (now old) (since old new)
-        → (tells → IsTidy a.root (now old) → AllSteps (IsProper a.root) (now old) (since old new) → LooksTidy look.Miss ws ws' a.function_name (output_asked a) a.code a.args f f' (now old) (since old new))
+    missing_warned : (why : Missing) → ws' ≡ ws ++ warnings_for why a.function_name a.args → IsMissing why a old new
+        → (old.told → IsOrderly a.root old new → LooksTidy look.Miss a ws ws' old new)
         → AreWarned Caused a.function_name (key_of a.args) (warnings_for why a.function_name a.args)
     missing_warned absent e missing tidy = warned_none Caused a.function_name (key_of a.args)
     missing_warned failed e missing tidy = warned_one Caused a.function_name (key_of a.args) _ refl refl missing
     missing_warned other e missing tidy = warned_one Caused a.function_name (key_of a.args) _ refl refl missing
-    missing_warned damaged e missing tidy = warned_one Caused a.function_name (key_of a.args) _ refl refl (λ t. (missing t, λ orderly. (tidy t orderly.0 orderly.1).1 e))
+    missing_warned damaged e missing tidy = warned_one Caused a.function_name (key_of a.args) _ refl refl (missing, λ t orderly. (tidy t orderly).1 e)
 
-    pub look_warns : (r : Look) → Looks r ws ws' a.function_name tells (output_asked a) a.code a.args f f' (now old) (since old new)
-        → (tells → IsTidy a.root (now old) → AllSteps (IsProper a.root) (now old) (since old new) → LooksTidy r ws ws' a.function_name (output_asked a) a.code a.args f f' (now old) (since old new))
-        → WarnsFrom Ready ws ws' a tells f f' old new
-    look_warns (look.Hit v) looks tidy = warns_none a Ready ws ws' tells f f' old new looks.0
+    pub look_warns : (r : Look) → Looks r a ws ws' old new → (old.told → IsOrderly a.root old new → LooksTidy r a ws ws' old new) → WarnsFrom Ready a ws ws' old new
+    look_warns (look.Hit v) looks tidy = warns_none a Ready ws ws' old new looks.0
     look_warns look.Miss looks tidy = (warnings_for looks.0 a.function_name a.args, looks.1, missing_warned looks.0 looks.1 looks.2 tidy)
-    look_warns look.NoMemory looks tidy = warns_none a Ready ws ws' tells f f' old new looks
+    look_warns look.NoMemory looks tidy = warns_none a Ready ws ws' old new looks

@@ -30,6 +30,9 @@ folders_fault made_dir.NoParent e = cc
 folders_fault made_dir.Failed e = refl
 folders_fault made_dir.NoMemory e = cc
 
+pub fault_folders : (r : MadeDir) → r ≡ made_dir.Failed → folders_of r ≡ made_folders.Fault
+fault_folders r e = ap folders_of e
+
 -- ---- kinds
 
 pub makes_itself : (p : PathView) → is_fixed p ≡ false → IsMaking p (MakeDir p)

@@ -3,6 +3,7 @@ use Rattle.std.specs.Prelude.{◌≡◌, ℕ, List, true, None, IsTrue, ⊤}
 use Rattle.jl_text.specs.Paths.{PathView}
 use Rattle.jl_text.specs.Texts.{is_name}
 use Rattle.jl_folder.specs.State.{State, place_at, is_folder}
+use Rattle.jl_folder.specs.Views.{FolderView, state}
 use Rattle.jl_protocol.specs.Tidy.{IsTidy}
 use Rattle.jl_clear.specs.Taking.{IsBeside}
 use Rattle.jl_store.specs.Doing.{IsPrefix}
@@ -39,6 +40,6 @@ LeavesCode check.StoreFault files bytes before after = ⊤
 LeavesCode check.NoMemory files bytes before after = ⊤
 
 -- the same in a tidy state of the files of a function, where no other moved
-abbrev pub LeavesAlone : CodeCheck → (token : List ℕ) → CodeFiles → List ℕ → State → State → Type 0
-LeavesAlone result token files bytes before after =
-    (root : PathView) (m f : List ℕ) → IsTrue (is_name m) → IsTrue (is_name f) → AreFiles root m f token files → IsTidy root before → LeavesCode result files bytes before after
+abbrev pub LeavesAlone : CodeCheck → CodeFiles → List ℕ → FolderView → FolderView → Type 0
+LeavesAlone result files bytes old new =
+    (root : PathView) (m f : List ℕ) → IsTrue (is_name m) → IsTrue (is_name f) → AreFiles root m f old.token files → IsTidy root (state old) → LeavesCode result files bytes (state old) (state new)

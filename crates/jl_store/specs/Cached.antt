@@ -1,12 +1,12 @@
 -- What a cached call answers, beside any other runs.
-use Rattle.std.specs.Prelude.{◌≡◌, ◌⊎◌, ℕ, List, ⊤}
-use Rattle.jl_text.specs.Paths.{PathView}
+use Rattle.std.specs.Prelude.{◌≡◌, ◌⊎◌, ℕ, ⊤}
 use Rattle.jl_text.specs.Counts.{Rose}
-use Rattle.jl_folder.specs.State.{State, Trace, AtSome}
+use Rattle.jl_folder.specs.State.{AtSome}
+use Rattle.jl_folder.specs.Views.{FolderView, state, moved}
 use Rattle.jl_value.specs.Form.{tree_of}
 use Rattle.jl_value.specs.Library.{Answer, value, error, next_count}
-use Rattle.jl_entry.specs.Entry.{Members}
-use Rattle.jl_store.specs.Looking.{Finds, Missing, IsMissing, StandsWith, Stands}
+use Rattle.jl_store.specs.Asked.{Asked, output_asked}
+use Rattle.jl_store.specs.Looking.{FindsAsked, Missing, IsMissing, StandsWith, HadNone}
 use Rattle.jl_store.specs.declared.found.Found.TheVariants as found
 use Rattle.jl_store.specs.declared.cached.Cached.{Cached}
 use Rattle.jl_store.specs.declared.cached.Cached.TheVariants.{Hit, Computed, Error, NoMemory}
@@ -34,15 +34,15 @@ IsMissed NoMemory a old new = (new ≡ old) ⊎ (new ≡ next_count old)
 
 -- Why a value was found or the function was called, whatever others do: an output with the value was opened; or there was none, the output was
 -- another's entry or none at all, or a fault rose.
-abbrev pub ComesBy : Cached → (tells : Type 0) → PathView → List ℕ → Members → (faults faults' : ℕ) → State → Trace → Type 0
-ComesBy (Hit v) tells path code ps faults faults' s moves = tells → Finds path code ps (found.Value v) s moves
-ComesBy (Computed v) tells path code ps faults faults' s moves = (why : Missing) × IsMissing why tells path code ps faults faults' s moves
-ComesBy (Error e) tells path code ps faults faults' s moves = (why : Missing) × IsMissing why tells path code ps faults faults' s moves
-ComesBy NoMemory tells path code ps faults faults' s moves = ⊤
+abbrev pub ComesBy : Cached → Asked → FolderView → FolderView → Type 0
+ComesBy (Hit v) a old new = FindsAsked a (found.Value v) old new
+ComesBy (Computed v) a old new = (why : Missing) × IsMissing why a old new
+ComesBy (Error e) a old new = (why : Missing) × IsMissing why a old new
+ComesBy NoMemory a old new = ⊤
 
 -- The same beside runs whose steps are proper: the value stood at one step; or no entry of this code and these arguments did, or a fault rose.
-abbrev pub ComesTidy : Cached → PathView → List ℕ → Members → (faults faults' : ℕ) → State → Trace → Type 0
-ComesTidy (Hit v) path code ps faults faults' s moves = AtSome s moves (StandsWith path code ps (tree_of v))
-ComesTidy (Computed v) path code ps faults faults' s moves = AtSome s moves (λ s. Stands path code ps s → ⊥) ⊎ Rose faults faults'
-ComesTidy (Error e) path code ps faults faults' s moves = AtSome s moves (λ s. Stands path code ps s → ⊥) ⊎ Rose faults faults'
-ComesTidy NoMemory path code ps faults faults' s moves = ⊤
+abbrev pub ComesTidy : Cached → Asked → FolderView → FolderView → Type 0
+ComesTidy (Hit v) a old new = AtSome (state old) (moved old new) (StandsWith (output_asked a) a.code a.args (tree_of v))
+ComesTidy (Computed v) a old new = HadNone a old new ⊎ Rose old.faults new.faults
+ComesTidy (Error e) a old new = HadNone a old new ⊎ Rose old.faults new.faults
+ComesTidy NoMemory a old new = ⊤

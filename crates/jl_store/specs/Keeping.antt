@@ -4,7 +4,8 @@ use Rattle.jl_text.specs.Paths.{PathView}
 use Rattle.jl_text.specs.declared.limits.TheConstants.{MOST_TEXT_BYTES}
 use Rattle.jl_folder.specs.declared.moves.Move.{Move}
 use Rattle.jl_folder.specs.declared.moves.Move.TheVariants.{MakeDir, Create, Append, Rename, Remove, RemoveDir}
-use Rattle.jl_folder.specs.State.{State, Event, Trace, History, place_at, is_folder, bytes_at, now, since}
+use Rattle.jl_folder.specs.State.{State, Event, Trace, place_at, is_folder, bytes_at}
+use Rattle.jl_folder.specs.Views.{FolderView, state, moved}
 use Rattle.jl_value.specs.Tree.{Tree, nesting}
 use Rattle.jl_value.specs.Canonical.{text_of}
 use Rattle.jl_value.specs.Key.{args_tree}
@@ -13,7 +14,7 @@ use Rattle.jl_entry.specs.Entry.{Members, entry_text}
 use Rattle.jl_entry.specs.Moments.{metadata_text, access_text}
 use Rattle.jl_entry.specs.declared.names.EntryFile.{EntryFile}
 use Rattle.jl_entry.specs.declared.names.EntryFile.TheVariants.{Output, Metadata, Access}
-use Rattle.jl_rely.specs.Steps.{StepFact}
+use Rattle.jl_rely.specs.Steps.{StepFact, OwnMoves}
 use Rattle.jl_rely.specs.Claims.{Called, Anywhere}
 use Rattle.jl_rely.specs.Touches.{TouchedByOther}
 use Rattle.jl_protocol.specs.Proper.{IsProper}
@@ -111,15 +112,43 @@ HasPut e token file steps = Includes (token, Rename (temp_of e token file) (last
 abbrev pub HasPutAll : Entry → List ℕ → Trace → Type 0
 HasPutAll e token steps = HasPut e token Output steps × HasPut e token Metadata steps × HasPut e token Access steps
 
+-- ---- in order
+
+-- makes the entry's folder
+abbrev pub IsMakingEntry : Entry → Move → Type 0
+IsMakingEntry e m = m ≡ MakeDir (entry_path e)
+
+-- the own steps are those of publishing this file
+abbrev pub OnlyFor : Entry → List ℕ → EntryFile → Trace → Type 0
+OnlyFor e token file steps = OwnMoves token (IsFor (last_of e file) (temp_of e token file)) steps
+
+-- the metadata is published, and then the last access, of which there is no step before the metadata was put in place
+pub record MomentsInOrder (e : Entry) (token : List ℕ) (steps : Trace) : Type 0 where
+  pub metadata : Trace
+  pub access : Trace
+  pub parts : steps ≡ metadata ++ access
+  pub metadata_own : OnlyFor e token Metadata metadata
+  pub access_own : OnlyFor e token Access access
+  pub access_after : (access ≡ []) ⊎ HasPut e token Metadata metadata
+
+-- first the output, besides other own steps of these kinds, and then the moments, of which there is no step before the output was put in place
+pub record InOrder (Before : Move → Type 0) (e : Entry) (token : List ℕ) (steps : Trace) : Type 0 where
+  pub output : Trace
+  pub moments : Trace
+  pub parts : steps ≡ output ++ moments
+  pub output_own : OwnMoves token (λ m. Before m ⊎ IsFor (last_of e Output) (temp_of e token Output) m) output
+  pub moments_in_order : MomentsInOrder e token moments
+  pub moments_after : (moments ≡ []) ⊎ HasPut e token Output output
+
 -- ---- the call
 
 -- Each own step is proper wherever all steps before it are, and each own rename gives a final name of the entry to its text.
 -- Kept is answered only where these renames were made.
 -- Skipped is answered only where another's step made or removed a name that keeping uses, if all was ready at the entry.
-pub record Keeps (e : Entry) (token : List ℕ) (text : EntryFile → List ℕ) (Ready : State → Type 0) (Done : Trace → Type 0) (old new : History) (result : Keep) : Type 0 where
-  pub call : Called (IsProper e.root) (PutsEntry e text) token (IsKeeping e token) (IsTidy e.root) Anywhere old new
-  pub kept : result ≡ keep.Kept → Done (since old new)
-  pub skipped : result ≡ keep.Skipped → Ready (now old) → TouchedByOther token (UsesEntry e token) (since old new)
+pub record Keeps (e : Entry) (text : EntryFile → List ℕ) (Ready : State → Type 0) (Done : Trace → Type 0) (result : Keep) (old new : FolderView) : Type 0 where
+  pub call : Called (IsProper e.root) (PutsEntry e text) (IsKeeping e old.token) (IsTidy e.root) Anywhere old new
+  pub kept : result ≡ keep.Kept → Done (moved old new)
+  pub skipped : result ≡ keep.Skipped → Ready (state old) → TouchedByOther old.token (UsesEntry e old.token) (moved old new)
 
 -- for one file: its folder is there, and no folder has its final or temporary name
 pub record IsReadyFor (e : Entry) (token : List ℕ) (file : EntryFile) (s : State) : Type 0 where
@@ -128,10 +157,10 @@ pub record IsReadyFor (e : Entry) (token : List ℕ) (file : EntryFile) (s : Sta
   pub temp_free : is_folder s (temp_of e token file) ≡ false
 
 -- One file alone: the same of its final and temporary name.
-pub record KeepsFile (e : Entry) (token : List ℕ) (file : EntryFile) (bytes : List ℕ) (Ready : State → Type 0) (old new : History) (result : Keep) : Type 0 where
-  pub call : Called (IsProper e.root) (PutsThis e.root (last_of e file) bytes) token (IsFor (last_of e file) (temp_of e token file)) (IsTidy e.root) Anywhere old new
-  pub kept : result ≡ keep.Kept → HasPut e token file (since old new)
-  pub skipped : result ≡ keep.Skipped → Ready (now old) → TouchedByOther token (UsesNames (last_of e file) (temp_of e token file)) (since old new)
+pub record KeepsFile (e : Entry) (file : EntryFile) (bytes : List ℕ) (Ready : State → Type 0) (result : Keep) (old new : FolderView) : Type 0 where
+  pub call : Called (IsProper e.root) (PutsThis e.root (last_of e file) bytes) (IsFor (last_of e file) (temp_of e old.token file)) (IsTidy e.root) Anywhere old new
+  pub kept : result ≡ keep.Kept → HasPut e old.token file (moved old new)
+  pub skipped : result ≡ keep.Skipped → Ready (state old) → TouchedByOther old.token (UsesNames (last_of e file) (temp_of e old.token file)) (moved old new)
 
 -- for a whole entry: the state is tidy, and the function's folder is there
 abbrev pub IsReadyToKeep : Entry → State → Type 0

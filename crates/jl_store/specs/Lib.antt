@@ -1,5 +1,7 @@
 pub mod Alone
+pub mod Asked
 pub mod Cached
+pub mod Calling
 pub mod Checking
 pub mod Doing
 pub mod Done

@@ -1,6 +1,5 @@
 -- What a look into the cache tells, whatever others do.
-use Rattle.std.specs.Prelude.{◌≡◌, ◌≢◌, ◌≤◌, ◌<◌, ◌⊎◌, ℕ, false, List, [], ◌∷◌, ◌++◌, length, Some, ⊤}
-use Rattle.hex.specs.Hex.{encode_lower}
+use Rattle.std.specs.Prelude.{◌≡◌, ◌≢◌, ◌≤◌, ◌⊎◌, ℕ, false, List, [], ◌∷◌, ◌++◌, length, Some, ⊤}
 use Rattle.jl_text.specs.Paths.{PathView}
 use Rattle.jl_value.specs.Tree.{Tree}
 use Rattle.jl_value.specs.Form.{tree_of}
@@ -10,12 +9,11 @@ use Rattle.jl_value.specs.declared.key.Key.{Key}
 use Rattle.jl_folder.specs.declared.moves.Place.TheVariants.{File}
 use Rattle.jl_folder.specs.declared.moves.Node.{Node}
 use Rattle.jl_folder.specs.State.{State, Trace, AtSome, place_at, node_at, is_file, bytes_at, run}
+use Rattle.jl_folder.specs.Views.{FolderView, state, moved}
 use Rattle.jl_text.specs.Counts.{Rose}
-use Rattle.jl_folder.specs.Reading.{IsUnwritten}
-use Rattle.jl_entry.specs.declared.names.EntryFile.TheVariants.{Output}
-use Rattle.jl_entry.specs.Names.{Final, entry_of, below, final_parts}
 use Rattle.jl_entry.specs.Entry.{Members, IsEntryOf, IsEntry, IsOther}
 use Rattle.jl_protocol.specs.Whole.{most_bytes, Answers}
+use Rattle.jl_store.specs.Asked.{Asked, output_asked}
 use Rattle.jl_store.specs.declared.memory.WarnKind.{WarnKind}
 use Rattle.jl_store.specs.declared.memory.WarnKind.TheVariants.{LoadFault, NotMine, Damaged}
 use Rattle.jl_store.specs.declared.memory.Warning.{Warning}
@@ -25,14 +23,6 @@ use Rattle.jl_store.specs.declared.found.Look.{Look}
 use Rattle.jl_store.specs.declared.found.Look.TheVariants as look
 
 -- ---- entries
-
--- the output of a module's function for these arguments
-abbrev pub output_of : (module' name : List ℕ) → Members → Final
-output_of m f ps = entry_of Output m f (encode_lower (key_of ps))
-
--- its path below a root
-abbrev pub output_path : PathView → (module' name : List ℕ) → Members → PathView
-output_path root m f ps = below root (final_parts (output_of m f ps))
 
 -- the bytes are the entry of this code, these arguments and this value, no longer than a reader reads
 abbrev pub IsStored : List ℕ → List ℕ → Members → Tree → Type 0
@@ -46,6 +36,10 @@ StandsWith path code ps t s = (bytes : List ℕ) × (bytes_at s path ≡ Some by
 abbrev pub Stands : PathView → List ℕ → Members → State → Type 0
 Stands path code ps s = (t : Tree) × StandsWith path code ps t s
 
+-- the bytes are an entry, no longer than a reader reads
+abbrev pub IsReadable : List ℕ → Type 0
+IsReadable bytes = (length bytes ≤ most_bytes) × IsEntry bytes
+
 -- ---- what was read
 
 -- what the bytes of an output are to a reader of this code and these arguments
@@ -53,29 +47,34 @@ abbrev pub IsJudged : Found → List ℕ → List ℕ → Members → Type 0
 IsJudged (found.Value v) bytes code ps = IsStored bytes code ps (tree_of v)
 IsJudged found.Absent bytes code ps = ⊥
 IsJudged found.NotMine bytes code ps = (length bytes ≤ most_bytes) × IsOther bytes code ps
-IsJudged found.Damaged bytes code ps = IsEntry bytes → most_bytes < length bytes
+IsJudged found.Damaged bytes code ps = IsReadable bytes → ⊥
 IsJudged found.Fault bytes code ps = ⊥
 IsJudged found.NoMemory bytes code ps = ⊤
 
--- at one step of the call the path named a node, and where nobody wrote to it from there on, its bytes have P
+-- at one step of the call the path named a node, whose bytes had P at that step or at a later one
 pub record OpenedHas (path : PathView) (P : List ℕ → Type 0) (s : State) (moves : Trace) : Type 0 where
   pub before : Trace
+  pub middle : Trace
   pub later : Trace
-  pub split : moves ≡ before ++ later
+  pub split : moves ≡ before ++ (middle ++ later)
   pub node : ℕ
-  pub view : Node
   pub named : place_at (run s before) path ≡ Some (File node)
-  pub node_is : node_at (run s before) node ≡ Some view
-  pub has : IsUnwritten node later → P view.bytes
+  pub view : Node
+  pub node_is : node_at (run s (before ++ middle)) node ≡ Some view
+  pub has : P view.bytes
 
 -- what stands under an output's name
 abbrev pub Finds : PathView → List ℕ → Members → Found → State → Trace → Type 0
 Finds path code ps (found.Value v) s moves = OpenedHas path (λ bytes. IsStored bytes code ps (tree_of v)) s moves
 Finds path code ps found.Absent s moves = AtSome s moves (λ s. is_file s path ≡ false)
 Finds path code ps found.NotMine s moves = OpenedHas path (λ bytes. (length bytes ≤ most_bytes) × IsOther bytes code ps) s moves
-Finds path code ps found.Damaged s moves = OpenedHas path (λ bytes. IsEntry bytes → most_bytes < length bytes) s moves
+Finds path code ps found.Damaged s moves = OpenedHas path (λ bytes. IsReadable bytes → ⊥) s moves
 Finds path code ps found.Fault s moves = ⊤
 Finds path code ps found.NoMemory s moves = ⊤
+
+-- the same of the output that is asked for, where the folder tells
+abbrev pub FindsAsked : Asked → Found → FolderView → FolderView → Type 0
+FindsAsked a found old new = old.told → Finds (output_asked a) a.code a.args found (state old) (moved old new)
 
 -- ---- a look
 
@@ -98,23 +97,21 @@ warnings_for other f ps = warning NotMine f ps ∷ []
 warnings_for damaged f ps = warning Damaged f ps ∷ []
 
 -- what then holds: a fault rose, or at one step there was no file, or the file opened was another's entry or none
-abbrev pub IsMissing : Missing → (Told : Type 0) → PathView → List ℕ → Members → (faults faults' : ℕ) → State → Trace → Type 0
-IsMissing absent Told path code ps faults faults' s moves = Told → Finds path code ps found.Absent s moves
-IsMissing failed Told path code ps faults faults' s moves = Rose faults faults'
-IsMissing other Told path code ps faults faults' s moves = Told → Finds path code ps found.NotMine s moves
-IsMissing damaged Told path code ps faults faults' s moves = Told → Finds path code ps found.Damaged s moves
+abbrev pub IsMissing : Missing → Asked → FolderView → FolderView → Type 0
+IsMissing absent a old new = FindsAsked a found.Absent old new
+IsMissing failed a old new = Rose old.faults new.faults
+IsMissing other a old new = FindsAsked a found.NotMine old new
+IsMissing damaged a old new = FindsAsked a found.Damaged old new
 
 -- what a look answers, with the warnings before and after it
-abbrev pub Looks : Look → (warnings warnings' : List Warning) → List ℕ → (Told : Type 0) → PathView → List ℕ → Members → (faults faults' : ℕ) → State → Trace → Type 0
-Looks (look.Hit v) ws ws' f Told path code ps faults faults' s moves = (ws' ≡ ws) × (Told → Finds path code ps (found.Value v) s moves)
-Looks look.Miss ws ws' f Told path code ps faults faults' s moves = (why : Missing) × (ws' ≡ ws ++ warnings_for why f ps) × IsMissing why Told path code ps faults faults' s moves
-Looks look.NoMemory ws ws' f Told path code ps faults faults' s moves = ws' ≡ ws
+abbrev pub Looks : Look → Asked → (warnings warnings' : List Warning) → FolderView → FolderView → Type 0
+Looks (look.Hit v) a ws ws' old new = (ws' ≡ ws) × FindsAsked a (found.Value v) old new
+Looks look.Miss a ws ws' old new = (why : Missing) × (ws' ≡ ws ++ warnings_for why a.function_name a.args) × IsMissing why a old new
+Looks look.NoMemory a ws ws' old new = ws' ≡ ws
 
--- what a miss that is warned of leaves
+-- a miss that is warned of
 abbrev pub IsMiss : Look → WarnKind → List ℕ → Key → (warnings warnings' : List Warning) → Type 0
-IsMiss (look.Hit v) kind f key ws ws' = ⊥
-IsMiss look.Miss kind f key ws ws' = ws' ≡ ws ++ record { kind = kind; name = f; key = key } ∷ []
-IsMiss look.NoMemory kind f key ws ws' = ws' ≡ ws
+IsMiss r kind f key ws ws' = (r ≡ look.Miss) × (ws' ≡ ws ++ record { kind = kind; name = f; key = key } ∷ [])
 
 -- the answer for what was found
 abbrev pub IsSettled : Look → Found → List ℕ → Key → (warnings warnings' : List Warning) → Type 0
@@ -125,13 +122,16 @@ IsSettled r found.Damaged f key ws ws' = IsMiss r Damaged f key ws ws'
 IsSettled r found.Fault f key ws ws' = IsMiss r LoadFault f key ws ws'
 IsSettled r found.NoMemory f key ws ws' = (r ≡ look.NoMemory) × (ws' ≡ ws)
 
+-- at one step no entry of this code and these arguments stood
+abbrev pub HadNone : Asked → FolderView → FolderView → Type 0
+HadNone a old new = AtSome (state old) (moved old new) (λ s. Stands (output_asked a) a.code a.args s → ⊥)
+
 -- the same beside runs whose steps are proper: a value stood as this entry at one step; where none was found, none of this code
 -- and these arguments stood at one step, or a fault rose; and nothing is damaged
-abbrev pub LooksTidy : Look → (warnings warnings' : List Warning) → List ℕ → PathView → List ℕ → Members → (faults faults' : ℕ) → State → Trace → Type 0
-LooksTidy (look.Hit v) ws ws' f path code ps faults faults' s moves = AtSome s moves (StandsWith path code ps (tree_of v))
-LooksTidy look.Miss ws ws' f path code ps faults faults' s moves =
-    (AtSome s moves (λ s. Stands path code ps s → ⊥) ⊎ Rose faults faults') × (ws' ≢ ws ++ warning Damaged f ps ∷ [])
-LooksTidy look.NoMemory ws ws' f path code ps faults faults' s moves = ⊤
+abbrev pub LooksTidy : Look → Asked → (warnings warnings' : List Warning) → FolderView → FolderView → Type 0
+LooksTidy (look.Hit v) a ws ws' old new = AtSome (state old) (moved old new) (StandsWith (output_asked a) a.code a.args (tree_of v))
+LooksTidy look.Miss a ws ws' old new = (HadNone a old new ⊎ Rose old.faults new.faults) × (ws' ≢ ws ++ warning Damaged a.function_name a.args ∷ [])
+LooksTidy look.NoMemory a ws ws' old new = ⊤
 
 -- a value that is found is what the code answers on the arguments
 abbrev pub IsAnswered : Look → Answers → List ℕ → Members → Type 0

@@ -4,11 +4,11 @@ use Rattle.hex.specs.Hex.{encode_lower}
 use Rattle.jl_text.specs.Paths.{PathView}
 use Rattle.jl_folder.specs.State.{State, place_at, bytes_at, is_file, is_folder}
 use Rattle.jl_streams.specs.Moments.{moment_of, moments_after}
+use Rattle.jl_streams.specs.Views.{HostView}
 use Rattle.jl_value.specs.Form.{tree_of}
 use Rattle.jl_value.specs.Key.{key_of}
-use Rattle.jl_entry.specs.Names.{is_key, root_of}
+use Rattle.jl_entry.specs.Names.{is_key}
 use Rattle.jl_entry.specs.Codes.{code_text}
-use Rattle.jl_entry.specs.Entry.{Members}
 use Rattle.jl_entry.specs.Moments.{access_text}
 use Rattle.jl_entry.specs.declared.names.EntryFile.TheVariants.{Access}
 use Rattle.jl_clear.specs.Taking.{IsBeside}
@@ -16,12 +16,12 @@ use Rattle.jl_store.specs.Doing.{IsPrefix}
 use Rattle.jl_store.specs.Publishing.{IsPublished}
 use Rattle.jl_store.specs.Checking.{IsOfCode, function_path, code_path, code_temp}
 use Rattle.jl_store.specs.Keeping.{Entry, HasEntry, last_of, temp_of, texts}
-use Rattle.jl_store.specs.Looking.{StandsWith, Stands, output_path}
+use Rattle.jl_store.specs.Looking.{StandsWith, Stands}
+use Rattle.jl_store.specs.Asked.{Asked, output_asked}
 use Rattle.jl_store.specs.declared.checks.CodeCheck.{CodeCheck}
 use Rattle.jl_store.specs.declared.checks.CodeCheck.TheVariants as check
 use Rattle.jl_store.specs.declared.cached.Cached.{Cached}
 use Rattle.jl_store.specs.declared.cached.Cached.TheVariants as cached
-use Rattle.jl_store.specs.declared.memory.Memory.{Memory}
 
 -- ---- the first part: the code
 
@@ -60,25 +60,9 @@ ChecksAlone check.NoMemory function last temp code bytes s t = ⊤
 
 -- ---- the second part: the answer
 
--- what is asked of the cache: the function, with its code and line, and its arguments, by the run of this token
-pub record Asked : Type 0 where
-  pub root : PathView
-  pub module_name : List ℕ
-  pub function_name : List ℕ
-  pub token : List ℕ
-  pub code : List ℕ
-  pub line : ℕ
-  pub args : Members
-
--- by a run's memory
-abbrev pub asked : Memory → (name code : List ℕ) → (line : ℕ) → Members → Asked
-asked memory f code line ps = record { root = root_of memory.location; module_name = memory.«module»; function_name = f; token = memory.token; code = code; line = line; args = ps }
-
+-- the entry of what is asked
 abbrev pub entry_asked : Asked → Entry
 entry_asked a = record { root = a.root; module_name = a.module_name; function_name = a.function_name; key = encode_lower (key_of a.args) }
-
-abbrev pub output_asked : Asked → PathView
-output_asked a = output_path a.root a.module_name a.function_name a.args
 
 -- what the answer leaves: where an entry stood it is the answer, and its last access has this moment; where none stood, a value is kept
 -- whole with the duration and the moment, and at an error nothing changes
@@ -101,8 +85,15 @@ LeavesNext cached.NoMemory a duration moment s t = ⊤
 LeavesNext result a duration moment s t = (middle : State) × AfterCheck a s middle × AnswersAlone result a duration moment middle t
 
 -- of the moments that the clock had left, a hit has the first; a value that was computed has the second, and how much later it is
-abbrev pub AreTimed : Cached → (duration moment : ℕ) → (moments : List ℕ) → Type 0
-AreTimed (cached.Hit v) duration moment moments = moment ≡ moment_of moments
-AreTimed (cached.Computed v) duration moment moments = (moment ≡ moment_of (moments_after moments)) × (duration ≡ moment_of (moments_after moments) - moment_of moments)
-AreTimed (cached.Error e) duration moment moments = ⊤
-AreTimed cached.NoMemory duration moment moments = ⊤
+abbrev pub AreTimed : Cached → (duration moment : ℕ) → HostView → Type 0
+AreTimed (cached.Hit v) duration moment host = moment ≡ moment_of host.moments
+AreTimed (cached.Computed v) duration moment host = (moment ≡ moment_of (moments_after host.moments)) × (duration ≡ moment_of (moments_after host.moments) - moment_of host.moments)
+AreTimed (cached.Error e) duration moment host = ⊤
+AreTimed cached.NoMemory duration moment host = ⊤
+
+-- and these are left then: a hit reads the clock once, and a call of the function is timed by two readings
+abbrev pub LeftAfter : Cached → HostView → HostView → Type 0
+LeftAfter (cached.Hit v) old new = new.moments ≡ moments_after old.moments
+LeftAfter (cached.Computed v) old new = new.moments ≡ moments_after (moments_after old.moments)
+LeftAfter (cached.Error e) old new = new.moments ≡ moments_after (moments_after old.moments)
+LeftAfter cached.NoMemory old new = ⊤

@@ -1,12 +1,14 @@
 -- Why a part of a cached call warns.
 use Rattle.std.specs.Prelude.{◌≡◌, ◌⊎◌, ℕ, true, List, [], ◌∷◌, ◌++◌, ⊤}
 use Rattle.jl_text.specs.Counts.{Rose}
-use Rattle.jl_folder.specs.State.{State, History, is_folder, now, since}
+use Rattle.jl_folder.specs.State.{State, is_folder}
+use Rattle.jl_folder.specs.Views.{FolderView, state, moved}
 use Rattle.jl_value.specs.Key.{key_of}
 use Rattle.jl_value.specs.declared.key.Key.{Key}
 use Rattle.jl_rely.specs.Touches.{TouchedByOther}
+use Rattle.jl_store.specs.Asked.{Asked}
 use Rattle.jl_store.specs.Keeping.{entry_path, function_path}
-use Rattle.jl_store.specs.Next.{Asked, entry_asked}
+use Rattle.jl_store.specs.Next.{entry_asked}
 use Rattle.jl_store.specs.Warned.{IsOrderly, UsesCall, IsCaused}
 use Rattle.jl_store.specs.declared.answer.Keep.{Keep}
 use Rattle.jl_store.specs.declared.answer.Keep.TheVariants as keep
@@ -51,15 +53,15 @@ abbrev pub HasFolder : Asked → State → Type 0
 HasFolder a s = is_folder s (entry_path (entry_asked a)) ≡ true
 
 -- the causes in a part of a call: a skip has its own where the part was begun with Ready
-abbrev pub IsCausedFrom : (Ready : State → Type 0) → WarnKind → Asked → (tells : Type 0) → (faults faults' : ℕ) → (old new : History) → Type 0
-IsCausedFrom Ready LoadFault a tells faults faults' old new = IsCaused LoadFault a tells faults faults' old new
-IsCausedFrom Ready StoreFault a tells faults faults' old new = IsCaused StoreFault a tells faults faults' old new
-IsCausedFrom Ready NotMine a tells faults faults' old new = IsCaused NotMine a tells faults faults' old new
-IsCausedFrom Ready Damaged a tells faults faults' old new = IsCaused Damaged a tells faults faults' old new
-IsCausedFrom Ready Skipped a tells faults faults' old new =
-    tells → IsOrderly a.root old new → Ready (now old) → TouchedByOther a.token (UsesCall a) (since old new) ⊎ Rose faults faults'
+abbrev pub IsCausedFrom : (Ready : State → Type 0) → WarnKind → Asked → FolderView → FolderView → Type 0
+IsCausedFrom Ready LoadFault a old new = IsCaused LoadFault a old new
+IsCausedFrom Ready StoreFault a old new = IsCaused StoreFault a old new
+IsCausedFrom Ready NotMine a old new = IsCaused NotMine a old new
+IsCausedFrom Ready Damaged a old new = IsCaused Damaged a old new
+IsCausedFrom Ready Skipped a old new =
+    old.told → IsOrderly a.root old new → Ready (state old) → TouchedByOther a.token (UsesCall a) (moved old new) ⊎ Rose old.faults new.faults
 
 -- a part of a call added these warnings
-abbrev pub WarnsFrom : (Ready : State → Type 0) → (warnings warnings' : List Warning) → Asked → (tells : Type 0) → (faults faults' : ℕ) → (old new : History) → Type 0
-WarnsFrom Ready ws ws' a tells faults faults' old new =
-    (added : List Warning) × (ws' ≡ ws ++ added) × AreWarned (λ kind. IsCausedFrom Ready kind a tells faults faults' old new) a.function_name (key_of a.args) added
+abbrev pub WarnsFrom : (Ready : State → Type 0) → Asked → (warnings warnings' : List Warning) → FolderView → FolderView → Type 0
+WarnsFrom Ready a ws ws' old new =
+    (added : List Warning) × (ws' ≡ ws ++ added) × AreWarned (λ kind. IsCausedFrom Ready kind a old new) a.function_name (key_of a.args) added

@@ -5,7 +5,8 @@ use Rattle.jl_folder.specs.declared.moves.Place.TheVariants.{File}
 use Rattle.jl_folder.specs.declared.moves.OpenFile.{OpenFile}
 use Rattle.jl_folder.specs.declared.moves.Move.{Move}
 use Rattle.jl_folder.specs.declared.moves.Move.TheVariants.{Remove}
-use Rattle.jl_folder.specs.State.{State, Event, Trace, History, Opens, place_at, node_at, is_file, is_folder, has_parent, bytes_at, now, since}
+use Rattle.jl_folder.specs.State.{State, Event, Trace, Opens, place_at, node_at, is_file, is_folder, has_parent, bytes_at}
+use Rattle.jl_folder.specs.Views.{FolderView, state, moved}
 use Rattle.jl_folder.specs.Calls.{Creates, MaybeCreates, Maybe, OpensNew}
 use Rattle.jl_entry.specs.Names.{Final, IsFinal, IsTemp}
 use Rattle.jl_rely.specs.Claims.{Called, Anywhere}
@@ -31,9 +32,9 @@ IsOfFile token last temp bytes = (root : PathView) × (x : Final) × IsTemp root
 
 -- for every root and final file whose temporary name this is: own steps of these kinds, proper wherever all steps before them are;
 -- begun where Pre held, and where all steps are proper, the call ends where Post holds
-abbrev pub CallsOn : List ℕ → PathView → (Kinds : Move → Type 0) → (Pre Post : PathView → State → Type 0) → History → History → Type 0
-CallsOn token temp Kinds Pre Post old new =
-    (root : PathView) (x : Final) → IsTemp root x token temp → Called (IsProper root) (IsProper root) token Kinds (Pre root) (Post root) old new
+abbrev pub CallsOn : PathView → (Kinds : Move → Type 0) → (Pre Post : PathView → State → Type 0) → FolderView → FolderView → Type 0
+CallsOn temp Kinds Pre Post old new =
+    (root : PathView) (x : Final) → IsTemp root x old.token temp → Called (IsProper root) (IsProper root) Kinds (Pre root) (Post root) old new
 
 -- ---- the temporary file
 
@@ -51,25 +52,25 @@ TakesAway temp taken.Fault s own = Maybe (Remove temp) own
 TakesAway temp taken.NoMemory s own = Maybe (Remove temp) own
 
 -- what is open after a temporary file was made or not; told by every folder
-abbrev pub TempOpens : TempFile → Opens → Opens → Type 0
-TempOpens (temp_file.File number) before after = OpensNew true number.0 before after
-TempOpens temp_file.Skipped before after = after ≡ before
-TempOpens temp_file.Fault before after = after ≡ before
-TempOpens temp_file.NoMemory before after = after ≡ before
+abbrev pub TempOpens : TempFile → FolderView → FolderView → Type 0
+TempOpens (temp_file.File number) old new = OpensNew true number.0 old.opens new.opens
+TempOpens temp_file.Skipped old new = new.opens ≡ old.opens
+TempOpens temp_file.Fault old new = new.opens ≡ old.opens
+TempOpens temp_file.NoMemory old new = new.opens ≡ old.opens
 
--- the node that is open is the own empty file
-abbrev pub TempLeft : List ℕ → PathView → Opens → TempFile → State → Type 0
-TempLeft token temp opens (temp_file.File number) s = (file : OpenFile) → opens number.0 ≡ Some file → IsOwnFile token temp file.node [] s
-TempLeft token temp opens temp_file.Skipped s = ⊤
-TempLeft token temp opens temp_file.Fault s = ⊤
-TempLeft token temp opens temp_file.NoMemory s = ⊤
+-- the node that is open then is the own empty file
+abbrev pub TempLeft : PathView → TempFile → FolderView → State → Type 0
+TempLeft temp (temp_file.File number) new s = (file : OpenFile) → new.opens number.0 ≡ Some file → IsOwnFile new.token temp file.node [] s
+TempLeft temp temp_file.Skipped new s = ⊤
+TempLeft temp temp_file.Fault new s = ⊤
+TempLeft temp temp_file.NoMemory new s = ⊤
 
 -- the temporary name names the node that is open
-abbrev pub TempNamed : PathView → Opens → TempFile → State → Type 0
-TempNamed temp opens (temp_file.File number) s = (file : OpenFile) → opens number.0 ≡ Some file → place_at s temp ≡ Some (File file.node)
-TempNamed temp opens temp_file.Skipped s = ⊤
-TempNamed temp opens temp_file.Fault s = ⊤
-TempNamed temp opens temp_file.NoMemory s = ⊤
+abbrev pub TempNamed : PathView → TempFile → FolderView → Type 0
+TempNamed temp (temp_file.File number) new = (file : OpenFile) → new.opens number.0 ≡ Some file → place_at (state new) temp ≡ Some (File file.node)
+TempNamed temp temp_file.Skipped new = ⊤
+TempNamed temp temp_file.Fault new = ⊤
+TempNamed temp temp_file.NoMemory new = ⊤
 
 -- ---- its bytes
 
@@ -93,9 +94,9 @@ pub record IsReady (last temp : PathView) (s : State) : Type 0 where
 
 -- Each own step is proper wherever all steps before it are, and each own rename gives the final name to these bytes.
 -- Skipped is answered only where another's step made or removed one of the names or their folder, if all was ready at the entry.
-pub record Publishes (root : PathView) (token : List ℕ) (last temp : PathView) (bytes : List ℕ) (old new : History) (result : Published) : Type 0 where
-  pub call : Called (IsProper root) (PutsThis root last bytes) token (IsFor last temp) (IsTidy root) Anywhere old new
-  pub skipped : result ≡ published.Skipped → IsReady last temp (now old) → TouchedByOther token (UsesNames last temp) (since old new)
+pub record Publishes (root last temp : PathView) (bytes : List ℕ) (result : Published) (old new : FolderView) : Type 0 where
+  pub call : Called (IsProper root) (PutsThis root last bytes) (IsFor last temp) (IsTidy root) Anywhere old new
+  pub skipped : result ≡ published.Skipped → IsReady last temp (state old) → TouchedByOther old.token (UsesNames last temp) (moved old new)
 
 -- ---- alone
 
@@ -113,11 +114,11 @@ pub record IsPublished (last temp : PathView) (bytes : List ℕ) (before after :
   pub beside : IsBeside (λ p. (p ≡ last) ⊎ (p ≡ temp)) before after
 
 -- where no other moved: the file that is open is a draft with no bytes
-abbrev pub TempAlone : List ℕ → PathView → Opens → TempFile → State → State → Type 0
-TempAlone token temp opens (temp_file.File number) before after = (file : OpenFile) → opens number.0 ≡ Some file → IsDraft token temp file.node [] before after
-TempAlone token temp opens temp_file.Skipped before after = ⊤
-TempAlone token temp opens temp_file.Fault before after = ⊤
-TempAlone token temp opens temp_file.NoMemory before after = ⊤
+abbrev pub TempAlone : PathView → TempFile → State → FolderView → Type 0
+TempAlone temp (temp_file.File number) before new = (file : OpenFile) → new.opens number.0 ≡ Some file → IsDraft new.token temp file.node [] before (state new)
+TempAlone temp temp_file.Skipped before new = ⊤
+TempAlone temp temp_file.Fault before new = ⊤
+TempAlone temp temp_file.NoMemory before new = ⊤
 
 abbrev pub BytesAlone : List ℕ → PathView → ℕ → List ℕ → Wrote → State → State → Type 0
 BytesAlone token temp n bytes wrote.All before after = IsDraft token temp n bytes before after

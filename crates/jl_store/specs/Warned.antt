@@ -1,26 +1,26 @@
 -- Why a cached call warns.
-use Rattle.std.specs.Prelude.{◌≡◌, ◌≤◌, ◌<◌, ◌⊎◌, ℕ, List, [], ◌∷◌, ◌++◌, length, ⊤}
+use Rattle.std.specs.Prelude.{◌≡◌, ◌⊎◌, List, [], ◌∷◌, ◌++◌, ⊤}
 use Rattle.jl_text.specs.Paths.{PathView}
 use Rattle.jl_text.specs.Counts.{Rose}
-use Rattle.jl_folder.specs.State.{History, now, since}
+use Rattle.jl_folder.specs.Views.{FolderView, state, moved}
 use Rattle.jl_value.specs.Key.{key_of}
-use Rattle.jl_entry.specs.Entry.{IsEntry, IsOther}
 use Rattle.jl_rely.specs.Steps.{AllSteps}
 use Rattle.jl_rely.specs.Touches.{TouchedByOther}
-use Rattle.jl_protocol.specs.Whole.{most_bytes}
 use Rattle.jl_protocol.specs.Tidy.{IsTidy}
 use Rattle.jl_protocol.specs.Proper.{IsProper}
+use Rattle.jl_store.specs.Asked.{Asked}
 use Rattle.jl_store.specs.Checking.{UsesCode, function_path, code_path, code_temp}
 use Rattle.jl_store.specs.Keeping.{UsesEntry}
-use Rattle.jl_store.specs.Looking.{OpenedHas}
-use Rattle.jl_store.specs.Next.{Asked, entry_asked, output_asked}
+use Rattle.jl_store.specs.Looking.{FindsAsked}
+use Rattle.jl_store.specs.Next.{entry_asked}
+use Rattle.jl_store.specs.declared.found.Found.TheVariants as found
 use Rattle.jl_store.specs.declared.memory.WarnKind.{WarnKind}
 use Rattle.jl_store.specs.declared.memory.WarnKind.TheVariants.{LoadFault, StoreFault, NotMine, Damaged, Skipped}
 use Rattle.jl_store.specs.declared.memory.Warning.{Warning}
 
 -- the state was tidy, and every step since was proper
-abbrev pub IsOrderly : PathView → History → History → Type 0
-IsOrderly root old new = IsTidy root (now old) × AllSteps (IsProper root) (now old) (since old new)
+abbrev pub IsOrderly : PathView → FolderView → FolderView → Type 0
+IsOrderly root old new = IsTidy root (state old) × AllSteps (IsProper root) (state old) (moved old new)
 
 -- the names that a call uses: those of its code, and those of its entry
 abbrev pub UsesCall : Asked → PathView → Type 0
@@ -30,25 +30,21 @@ UsesCall a p =
 
 -- What a warning of this kind comes from. A fault of the folder rose. Or at one step the output was another's entry, or none at all, which
 -- never is where all keep order. Or another made or removed a name that the call uses, where all keep order.
-abbrev pub IsCaused : WarnKind → Asked → (tells : Type 0) → (faults faults' : ℕ) → (old new : History) → Type 0
-IsCaused LoadFault a tells faults faults' old new = Rose faults faults'
-IsCaused StoreFault a tells faults faults' old new = Rose faults faults'
-IsCaused NotMine a tells faults faults' old new =
-    tells → OpenedHas (output_asked a) (λ bytes. (length bytes ≤ most_bytes) × IsOther bytes a.code a.args) (now old) (since old new)
-IsCaused Damaged a tells faults faults' old new =
-    tells → OpenedHas (output_asked a) (λ bytes. IsEntry bytes → most_bytes < length bytes) (now old) (since old new) × (IsOrderly a.root old new → ⊥)
-IsCaused Skipped a tells faults faults' old new =
-    tells → IsOrderly a.root old new → TouchedByOther a.token (UsesCall a) (since old new) ⊎ Rose faults faults'
+abbrev pub IsCaused : WarnKind → Asked → FolderView → FolderView → Type 0
+IsCaused LoadFault a old new = Rose old.faults new.faults
+IsCaused StoreFault a old new = Rose old.faults new.faults
+IsCaused NotMine a old new = FindsAsked a found.NotMine old new
+IsCaused Damaged a old new = FindsAsked a found.Damaged old new × (old.told → IsOrderly a.root old new → ⊥)
+IsCaused Skipped a old new = old.told → IsOrderly a.root old new → TouchedByOther a.token (UsesCall a) (moved old new) ⊎ Rose old.faults new.faults
 
 -- each of these warnings is on this call, and has its cause
-unfoldable pub AreCaused : List Warning → Asked → (tells : Type 0) → (faults faults' : ℕ) → (old new : History) → Type 0
-AreCaused [] a tells faults faults' old new = ⊤
-AreCaused (w ∷ ws) a tells faults faults' old new =
-    ((w.name ≡ a.function_name) × (w.key.0 ≡ key_of a.args) × IsCaused w.kind a tells faults faults' old new) × AreCaused ws a tells faults faults' old new
+unfoldable pub AreCaused : List Warning → Asked → FolderView → FolderView → Type 0
+AreCaused [] a old new = ⊤
+AreCaused (w ∷ ws) a old new = ((w.name ≡ a.function_name) × (w.key.0 ≡ key_of a.args) × IsCaused w.kind a old new) × AreCaused ws a old new
 
 -- a call added these warnings
-abbrev pub Warns : (warnings warnings' : List Warning) → Asked → (tells : Type 0) → (faults faults' : ℕ) → (old new : History) → Type 0
-Warns ws ws' a tells faults faults' old new = (added : List Warning) × (ws' ≡ ws ++ added) × AreCaused added a tells faults faults' old new
+abbrev pub Warns : Asked → (warnings warnings' : List Warning) → FolderView → FolderView → Type 0
+Warns a ws ws' old new = (added : List Warning) × (ws' ≡ ws ++ added) × AreCaused added a old new
 
 -- each of these is of an entry of another code or of other arguments
 unfoldable pub AreOthers : List Warning → Type 0

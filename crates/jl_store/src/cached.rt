@@ -1,10 +1,11 @@
 // One cached call.
-ghost use Rattle.std.specs.Prelude.{◌≡◌, ◌≢◌, ◌≤◌, ◌⊎◌, ◌++◌, ℕ, List, Some, None, Option, IsSome, IfOk, OnOk, OnErr, IsTrue, IsUtf8, length};
+ghost use Rattle.std.specs.Prelude.{◌≡◌, ◌≢◌, ◌≤◌, ◌⊎◌, ◌++◌, ℕ, List, Some, IsSome, IfOk, OnOk, OnErr, IsTrue, length};
 ghost use Rattle.jl_text.specs.Texts.{is_name};
 ghost use Rattle.jl_text.specs.Counts.{Rose};
 ghost use Rattle.jl_text.specs.declared.limits.TheConstants.{MOST_TEXT_BYTES};
-ghost use Rattle.jl_folder.specs.State.{now, since};
+ghost use Rattle.jl_folder.specs.Views.{FolderKeeps, state, moved};
 ghost use Rattle.jl_streams.specs.Moments.{moment_of};
+ghost use Rattle.jl_streams.specs.Views.{HostKeeps};
 ghost use Rattle.jl_value.specs.Tree.{nesting};
 ghost use Rattle.jl_value.specs.Form.{tree_of};
 ghost use Rattle.jl_value.specs.Canonical.{text_of};
@@ -17,17 +18,18 @@ ghost use Rattle.jl_entry.specs.Names.{root_of};
 ghost use Rattle.jl_entry.specs.declared.names.EntryFile.{EntryFile};
 ghost use Rattle.jl_protocol.specs.Whole.{Answers};
 ghost use Rattle.jl_protocol.specs.Tidy.{IsTidy, IsSound};
-ghost use Rattle.jl_protocol.specs.Proper.{IsLawful};
-ghost use Rattle.jl_rely.specs.Claims.{Called as CallsFolder};
+ghost use Rattle.jl_protocol.specs.Proper.{IsProper, IsLawful};
+ghost use Rattle.jl_rely.specs.Claims.{Called as CallsFolder, Anywhere};
 ghost use Rattle.jl_rely.specs.Steps.{IsLone};
-ghost use Rattle.jl_clear.specs.Doing.{AnyMove};
+ghost use Rattle.jl_store.specs.Asked.{asked, output_path};
 ghost use Rattle.jl_store.specs.Publishing.{IsPublished};
-ghost use Rattle.jl_store.specs.Keeping.{HasPut, HasPutAll, IsKeepable, IsReadyToKeep, IsReadyToTouch, HasEntry, entry_in, last_of, temp_of, texts as texts_of};
-ghost use Rattle.jl_store.specs.Looking.{Stands, output_path};
+ghost use Rattle.jl_store.specs.Keeping.{HasPut, HasPutAll, IsMakingEntry, InOrder, PutsEntry, IsKeepable, IsReadyToKeep, IsReadyToTouch, HasEntry, entry_in, last_of, temp_of, texts as texts_of};
+ghost use Rattle.jl_store.specs.Looking.{Stands};
 ghost use Rattle.jl_store.specs.Cached.{IsAnswer, CountsCall, IsMissed, ComesBy, ComesTidy};
-ghost use Rattle.jl_store.specs.Next.{AnswersAlone, LeavesNext, AreTimed, asked};
+ghost use Rattle.jl_store.specs.Calling.{IsAnswering, IsCalling, ClearsOnlyAnothers, IsBeforeOutput, IsOrdered, PutsAnswer, PutsFiles};
+ghost use Rattle.jl_store.specs.Next.{AnswersAlone, LeavesNext, AreTimed, LeftAfter};
 ghost use Rattle.jl_store.specs.Warned.{IsOrderly, Warns, WarnsOfOthers};
-ghost use Rattle.jl_store.specs.Done.{PartDone, KeepsOrWarns, AnswersOrWarns, DoesOrWarns};
+ghost use Rattle.jl_store.specs.Done.{OfKeeping, PartDone, KeepsOrWarns, AnswersOrWarns, DoesOrWarns};
 ghost use Rattle.jl_store.specs.Parts.{WarnsFrom, HasFunction, HasFolder, keep_warns, check_warns};
 ghost use Rattle.jl_store.specs.Trust.{IsTrusted};
 
@@ -126,25 +128,22 @@ fn found<F: Folder, H: Host>(
     value: Value,
     warnings: &mut Vec<Warning>,
 ) -> Cached
-    requires token { F.token folder.old ≡ memory.now.token }
+    requires token { (F.view folder.old).token ≡ memory.now.token }
     requires module_name { IsTrue (is_name memory.now.«module») }
     requires function_name { IsTrue (is_name name.now) }
-    ensures lawful { F.told folder.old → (answer : Answers) → CallsFolder (IsLawful (root_of memory.now.location) answer) (IsLawful (root_of memory.now.location) answer) (F.token folder.old) AnyMove
-        (IsSound (root_of memory.now.location) answer) (IsSound (root_of memory.now.location) answer) (F.history folder.old) (F.history folder.new) }
+    ensures lawful { (F.view folder.old).told → (answer : Answers) → CallsFolder (IsLawful (root_of memory.now.location) answer) (IsLawful (root_of memory.now.location) answer) (IsAnswering result (entry_in memory.now name.now key.now.0) (F.view folder.old).token)
+        (IsSound (root_of memory.now.location) answer) (IsSound (root_of memory.now.location) answer) (F.view folder.old) (F.view folder.new) }
     ensures found { (result ≡ Cached.Hit value) ⊎ (result ≡ Cached.NoMemory) }
+    ensures puts { (F.view folder.old).told → (c : List ℕ) (n : ℕ) (ps : Members) → key.now.0 ≡ key_of ps → PutsAnswer result (asked memory.now name.now c n ps) (H.view host.old) (F.view folder.old) (F.view folder.new) }
     ensures warns { (c : List ℕ) (n : ℕ) (ps : Members) → key.now.0 ≡ key_of ps →
-        WarnsFrom (HasFolder (asked memory.now name.now c n ps)) warnings.old.items warnings.new.items (asked memory.now name.now c n ps) (F.told folder.old) (F.faults folder.old) (F.faults folder.new) (F.history folder.old) (F.history folder.new) }
-    ensures done { F.told folder.old → result ≡ Cached.Hit value →
-        PartDone (HasPut (entry_in memory.now name.now key.now.0) (F.token folder.old) EntryFile.Access (since (F.history folder.old) (F.history folder.new))) warnings.old.items warnings.new.items }
-    ensures alone { F.told folder.old → IsLone (F.token folder.old) (since (F.history folder.old) (F.history folder.new)) →
-        IsReadyToTouch (entry_in memory.now name.now key.now.0) (now (F.history folder.old)) → (Rose (F.faults folder.old) (F.faults folder.new) → ⊥) → result ≡ Cached.Hit value →
-        (moment : ℕ) × IsPublished (last_of (entry_in memory.now name.now key.now.0) EntryFile.Access) (temp_of (entry_in memory.now name.now key.now.0) (F.token folder.old) EntryFile.Access) (access_text moment) (now (F.history folder.old)) (now (F.history folder.new))
-        × (H.told host.old → moment ≡ moment_of (H.moments host.old)) }
-    ensures told { F.told folder.old → F.told folder.new }
-    ensures token { F.token folder.new ≡ F.token folder.old }
-    ensures opens { F.opens folder.new ≡ F.opens folder.old }
-    ensures faults { F.faults folder.old ≤ F.faults folder.new }
-    ensures host { H.token host.new ≡ H.token host.old }
+        WarnsFrom (HasFolder (asked memory.now name.now c n ps)) (asked memory.now name.now c n ps) warnings.old.items warnings.new.items (F.view folder.old) (F.view folder.new) }
+    ensures done { (F.view folder.old).told → result ≡ Cached.Hit value → PartDone OfKeeping (HasPut (entry_in memory.now name.now key.now.0) (F.view folder.old).token EntryFile.Access (moved (F.view folder.old) (F.view folder.new))) warnings.old.items warnings.new.items }
+    ensures alone { (F.view folder.old).told → IsLone (F.view folder.old).token (moved (F.view folder.old) (F.view folder.new)) → IsReadyToTouch (entry_in memory.now name.now key.now.0) (state (F.view folder.old)) → (Rose (F.view folder.old).faults (F.view folder.new).faults → ⊥) → result ≡ Cached.Hit value →
+        (moment : ℕ) × IsPublished (last_of (entry_in memory.now name.now key.now.0) EntryFile.Access) (temp_of (entry_in memory.now name.now key.now.0) (F.view folder.old).token EntryFile.Access) (access_text moment) (state (F.view folder.old)) (state (F.view folder.new))
+        × ((H.view host.old).told → moment ≡ moment_of (H.view host.old).moments) }
+    ensures frame { FolderKeeps (F.view folder.old) (F.view folder.new) }
+    ensures host { HostKeeps (H.view host.old) (H.view host.new) }
+    ensures clock { (H.view host.old).told → LeftAfter result (H.view host.old) (H.view host.new) }
 {
     let moment = host.now();
     let kept = touch(alloc, memory, folder, name, key, moment);
@@ -167,7 +166,7 @@ fn computed<F: Folder>(
     moment: u64,
     warnings: &mut Vec<Warning>,
 ) -> Cached
-    requires token { F.token folder.old ≡ memory.now.token }
+    requires token { (F.view folder.old).token ≡ memory.now.token }
     requires module_name { IsTrue (is_name memory.now.«module») }
     requires function_name { IsTrue (is_name name.now) }
     requires keepable { IsKeepable code.now args.now (tree_of value) }
@@ -175,20 +174,17 @@ fn computed<F: Folder>(
     requires value_proper { IsProperTree (tree_of value) }
     requires duration { IsMoment duration }
     requires moment { IsMoment moment }
-    ensures lawful { F.told folder.old → (answer : Answers) → answer code.now args.now ≡ value_is (tree_of value) → CallsFolder (IsLawful (root_of memory.now.location) answer) (IsLawful (root_of memory.now.location) answer) (F.token folder.old) AnyMove
-        (IsSound (root_of memory.now.location) answer) (IsSound (root_of memory.now.location) answer) (F.history folder.old) (F.history folder.new) }
+    ensures lawful { (F.view folder.old).told → (answer : Answers) → answer code.now args.now ≡ value_is (tree_of value) → CallsFolder (IsLawful (root_of memory.now.location) answer) (IsLawful (root_of memory.now.location) answer) (IsAnswering result (entry_in memory.now name.now (key_of args.now)) (F.view folder.old).token)
+        (IsSound (root_of memory.now.location) answer) (IsSound (root_of memory.now.location) answer) (F.view folder.old) (F.view folder.new) }
     ensures computed { (result ≡ Cached.Computed value) ⊎ (result ≡ Cached.NoMemory) }
-    ensures warns { (n : ℕ) →
-        WarnsFrom (HasFunction (asked memory.now name.now code.now n args.now)) warnings.old.items warnings.new.items (asked memory.now name.now code.now n args.now) (F.told folder.old) (F.faults folder.old) (F.faults folder.new) (F.history folder.old) (F.history folder.new) }
-    ensures done { F.told folder.old → result ≡ Cached.Computed value →
-        PartDone (HasPutAll (entry_in memory.now name.now (key_of args.now)) (F.token folder.old) (since (F.history folder.old) (F.history folder.new))) warnings.old.items warnings.new.items }
-    ensures alone { F.told folder.old → IsLone (F.token folder.old) (since (F.history folder.old) (F.history folder.new)) →
-        IsReadyToKeep (entry_in memory.now name.now (key_of args.now)) (now (F.history folder.old)) → (Rose (F.faults folder.old) (F.faults folder.new) → ⊥) → result ≡ Cached.Computed value →
-        HasEntry (entry_in memory.now name.now (key_of args.now)) (F.token folder.old) (texts_of code.now args.now (tree_of value) duration moment) (now (F.history folder.old)) (now (F.history folder.new)) }
-    ensures told { F.told folder.old → F.told folder.new }
-    ensures token { F.token folder.new ≡ F.token folder.old }
-    ensures opens { F.opens folder.new ≡ F.opens folder.old }
-    ensures faults { F.faults folder.old ≤ F.faults folder.new }
+    ensures puts { (F.view folder.old).told → CallsFolder (IsProper (root_of memory.now.location)) (PutsEntry (entry_in memory.now name.now (key_of args.now)) (texts_of code.now args.now (tree_of value) duration moment)) (IsAnswering result (entry_in memory.now name.now (key_of args.now)) (F.view folder.old).token)
+        (IsTidy (root_of memory.now.location)) Anywhere (F.view folder.old) (F.view folder.new) }
+    ensures order { (F.view folder.old).told → InOrder (IsMakingEntry (entry_in memory.now name.now (key_of args.now))) (entry_in memory.now name.now (key_of args.now)) (F.view folder.old).token (moved (F.view folder.old) (F.view folder.new)) }
+    ensures warns { (n : ℕ) → WarnsFrom (HasFunction (asked memory.now name.now code.now n args.now)) (asked memory.now name.now code.now n args.now) warnings.old.items warnings.new.items (F.view folder.old) (F.view folder.new) }
+    ensures done { (F.view folder.old).told → result ≡ Cached.Computed value → PartDone OfKeeping (HasPutAll (entry_in memory.now name.now (key_of args.now)) (F.view folder.old).token (moved (F.view folder.old) (F.view folder.new))) warnings.old.items warnings.new.items }
+    ensures alone { (F.view folder.old).told → IsLone (F.view folder.old).token (moved (F.view folder.old) (F.view folder.new)) → IsReadyToKeep (entry_in memory.now name.now (key_of args.now)) (state (F.view folder.old)) → (Rose (F.view folder.old).faults (F.view folder.new).faults → ⊥) → result ≡ Cached.Computed value →
+        HasEntry (entry_in memory.now name.now (key_of args.now)) (F.view folder.old).token (texts_of code.now args.now (tree_of value) duration moment) (state (F.view folder.old)) (state (F.view folder.new)) }
+    ensures frame { FolderKeeps (F.view folder.old) (F.view folder.new) }
 {
     let Ok(key) = digest(alloc, args) else {
         return Cached::NoMemory;
@@ -214,7 +210,7 @@ fn missed<L: Library, F: Folder, H: Host>(
     args: &Args,
     warnings: &mut Vec<Warning>,
 ) -> Cached
-    requires token { F.token folder.old ≡ memory.now.token }
+    requires token { (F.view folder.old).token ≡ memory.now.token }
     requires module_name { IsTrue (is_name memory.now.«module») }
     requires function_name { IsTrue (is_name name.now) }
     requires defined { L.code (L.loaded lib.old) name.now ≡ Some code.now }
@@ -222,24 +218,21 @@ fn missed<L: Library, F: Folder, H: Host>(
     requires proper { IsProperTree (args_tree args.now) }
     requires depth { nesting (args_tree args.now) ≤ 64 }
     requires size { length (text_of (args_tree args.now)) ≤ MOST_TEXT_BYTES }
-    ensures lawful { F.told folder.old → CallsFolder (IsLawful (root_of memory.now.location) L.answer) (IsLawful (root_of memory.now.location) L.answer) (F.token folder.old) AnyMove
-        (IsSound (root_of memory.now.location) L.answer) (IsSound (root_of memory.now.location) L.answer) (F.history folder.old) (F.history folder.new) }
+    ensures lawful { (F.view folder.old).told → CallsFolder (IsLawful (root_of memory.now.location) L.answer) (IsLawful (root_of memory.now.location) L.answer) (IsAnswering result (entry_in memory.now name.now (key_of args.now)) (F.view folder.old).token)
+        (IsSound (root_of memory.now.location) L.answer) (IsSound (root_of memory.now.location) L.answer) (F.view folder.old) (F.view folder.new) }
     ensures missed { IsMissed result (L.answer code.now args.now) (L.calls lib.old) (L.calls lib.new) }
-    ensures warns { (n : ℕ) →
-        WarnsFrom (HasFunction (asked memory.now name.now code.now n args.now)) warnings.old.items warnings.new.items (asked memory.now name.now code.now n args.now) (F.told folder.old) (F.faults folder.old) (F.faults folder.new) (F.history folder.old) (F.history folder.new) }
-    ensures done { F.told folder.old → (n : ℕ) →
-        KeepsOrWarns result (asked memory.now name.now code.now n args.now) (since (F.history folder.old) (F.history folder.new)) warnings.old.items warnings.new.items }
-    ensures alone { F.told folder.old → (n : ℕ) → IsLone (F.token folder.old) (since (F.history folder.old) (F.history folder.new)) →
-        IsReadyToKeep (entry_in memory.now name.now (key_of args.now)) (now (F.history folder.old)) → (Rose (F.faults folder.old) (F.faults folder.new) → ⊥) →
-        (Stands (output_path (root_of memory.now.location) memory.now.«module» name.now args.now) code.now args.now (now (F.history folder.old)) → ⊥) →
-        (duration : ℕ) × (moment : ℕ) × AnswersAlone result (asked memory.now name.now code.now n args.now) duration moment (now (F.history folder.old)) (now (F.history folder.new))
-        × (H.told host.old → AreTimed result duration moment (H.moments host.old)) }
+    ensures puts { (F.view folder.old).told → (n : ℕ) → PutsAnswer result (asked memory.now name.now code.now n args.now) (H.view host.old) (F.view folder.old) (F.view folder.new) }
+    ensures order { (F.view folder.old).told → InOrder (IsMakingEntry (entry_in memory.now name.now (key_of args.now))) (entry_in memory.now name.now (key_of args.now)) (F.view folder.old).token (moved (F.view folder.old) (F.view folder.new)) }
+    ensures warns { (n : ℕ) → WarnsFrom (HasFunction (asked memory.now name.now code.now n args.now)) (asked memory.now name.now code.now n args.now) warnings.old.items warnings.new.items (F.view folder.old) (F.view folder.new) }
+    ensures done { (F.view folder.old).told → (n : ℕ) → KeepsOrWarns result (asked memory.now name.now code.now n args.now) (moved (F.view folder.old) (F.view folder.new)) warnings.old.items warnings.new.items }
+    ensures alone { (F.view folder.old).told → (n : ℕ) → IsLone (F.view folder.old).token (moved (F.view folder.old) (F.view folder.new)) → IsReadyToKeep (entry_in memory.now name.now (key_of args.now)) (state (F.view folder.old)) → (Rose (F.view folder.old).faults (F.view folder.new).faults → ⊥) →
+        (Stands (output_path (root_of memory.now.location) memory.now.«module» name.now args.now) code.now args.now (state (F.view folder.old)) → ⊥) →
+        (duration : ℕ) × (moment : ℕ) × AnswersAlone result (asked memory.now name.now code.now n args.now) duration moment (state (F.view folder.old)) (state (F.view folder.new))
+        × ((H.view host.old).told → AreTimed result duration moment (H.view host.old)) }
     ensures loaded { L.loaded lib.new ≡ L.loaded lib.old }
-    ensures told { F.told folder.old → F.told folder.new }
-    ensures token { F.token folder.new ≡ F.token folder.old }
-    ensures opens { F.opens folder.new ≡ F.opens folder.old }
-    ensures faults { F.faults folder.old ≤ F.faults folder.new }
-    ensures host { H.token host.new ≡ H.token host.old }
+    ensures frame { FolderKeeps (F.view folder.old) (F.view folder.new) }
+    ensures host { HostKeeps (H.view host.old) (H.view host.new) }
+    ensures clock { (H.view host.old).told → LeftAfter result (H.view host.old) (H.view host.new) }
 {
     let before = host.now();
     let called = lib.call(alloc, name, args);
@@ -275,7 +268,7 @@ fn answered<L: Library, F: Folder, H: Host>(
     key: &Key,
     warnings: &mut Vec<Warning>,
 ) -> Cached
-    requires token { F.token folder.old ≡ memory.now.token }
+    requires token { (F.view folder.old).token ≡ memory.now.token }
     requires module_name { IsTrue (is_name memory.now.«module») }
     requires function_name { IsTrue (is_name name.now) }
     requires defined { L.code (L.loaded lib.old) name.now ≡ Some code.now }
@@ -284,29 +277,23 @@ fn answered<L: Library, F: Folder, H: Host>(
     requires depth { nesting (args_tree args.now) ≤ 64 }
     requires size { length (text_of (args_tree args.now)) ≤ MOST_TEXT_BYTES }
     requires key { key.now.0 ≡ key_of args.now }
-    ensures lawful { F.told folder.old → CallsFolder (IsLawful (root_of memory.now.location) L.answer) (IsLawful (root_of memory.now.location) L.answer) (F.token folder.old) AnyMove
-        (IsSound (root_of memory.now.location) L.answer) (IsSound (root_of memory.now.location) L.answer) (F.history folder.old) (F.history folder.new) }
-    ensures warns { (n : ℕ) →
-        WarnsFrom (HasFunction (asked memory.now name.now code.now n args.now)) warnings.old.items warnings.new.items (asked memory.now name.now code.now n args.now) (F.told folder.old) (F.faults folder.old) (F.faults folder.new) (F.history folder.old) (F.history folder.new) }
-    ensures done { F.told folder.old → (n : ℕ) →
-        AnswersOrWarns result (asked memory.now name.now code.now n args.now) (now (F.history folder.old)) (since (F.history folder.old) (F.history folder.new)) warnings.old.items warnings.new.items }
-    ensures alone { F.told folder.old → (n : ℕ) → IsLone (F.token folder.old) (since (F.history folder.old) (F.history folder.new)) →
-        IsReadyToKeep (entry_in memory.now name.now (key_of args.now)) (now (F.history folder.old)) → (Rose (F.faults folder.old) (F.faults folder.new) → ⊥) →
-        (duration : ℕ) × (moment : ℕ) × AnswersAlone result (asked memory.now name.now code.now n args.now) duration moment (now (F.history folder.old)) (now (F.history folder.new))
-        × (H.told host.old → AreTimed result duration moment (H.moments host.old)) }
-    ensures looks { ComesBy result (F.told folder.old) (output_path (root_of memory.now.location) memory.now.«module» name.now args.now) code.now args.now
-        (F.faults folder.old) (F.faults folder.new) (now (F.history folder.old)) (since (F.history folder.old) (F.history folder.new)) }
-    ensures tidy { F.told folder.old → IsOrderly (root_of memory.now.location) (F.history folder.old) (F.history folder.new) →
-        ComesTidy result (output_path (root_of memory.now.location) memory.now.«module» name.now args.now) code.now args.now
-        (F.faults folder.old) (F.faults folder.new) (now (F.history folder.old)) (since (F.history folder.old) (F.history folder.new)) }
-    ensures answer { IsAnswer result (L.answer code.now args.now) (IsTrusted (root_of memory.now.location) L.answer (F.told folder.old) (F.history folder.old) (F.history folder.new)) }
+    ensures lawful { (F.view folder.old).told → CallsFolder (IsLawful (root_of memory.now.location) L.answer) (IsLawful (root_of memory.now.location) L.answer) (IsAnswering result (entry_in memory.now name.now (key_of args.now)) (F.view folder.old).token)
+        (IsSound (root_of memory.now.location) L.answer) (IsSound (root_of memory.now.location) L.answer) (F.view folder.old) (F.view folder.new) }
+    ensures puts { (F.view folder.old).told → (n : ℕ) → PutsAnswer result (asked memory.now name.now code.now n args.now) (H.view host.old) (F.view folder.old) (F.view folder.new) }
+    ensures order { (F.view folder.old).told → IsOrdered result (IsMakingEntry (entry_in memory.now name.now (key_of args.now))) (entry_in memory.now name.now (key_of args.now)) (F.view folder.old).token (moved (F.view folder.old) (F.view folder.new)) }
+    ensures warns { (n : ℕ) → WarnsFrom (HasFunction (asked memory.now name.now code.now n args.now)) (asked memory.now name.now code.now n args.now) warnings.old.items warnings.new.items (F.view folder.old) (F.view folder.new) }
+    ensures done { (F.view folder.old).told → (n : ℕ) → AnswersOrWarns result (asked memory.now name.now code.now n args.now) (state (F.view folder.old)) (moved (F.view folder.old) (F.view folder.new)) warnings.old.items warnings.new.items }
+    ensures alone { (F.view folder.old).told → (n : ℕ) → IsLone (F.view folder.old).token (moved (F.view folder.old) (F.view folder.new)) → IsReadyToKeep (entry_in memory.now name.now (key_of args.now)) (state (F.view folder.old)) → (Rose (F.view folder.old).faults (F.view folder.new).faults → ⊥) →
+        (duration : ℕ) × (moment : ℕ) × AnswersAlone result (asked memory.now name.now code.now n args.now) duration moment (state (F.view folder.old)) (state (F.view folder.new))
+        × ((H.view host.old).told → AreTimed result duration moment (H.view host.old)) }
+    ensures looks { (n : ℕ) → ComesBy result (asked memory.now name.now code.now n args.now) (F.view folder.old) (F.view folder.new) }
+    ensures tidy { (F.view folder.old).told → (n : ℕ) → IsOrderly (root_of memory.now.location) (F.view folder.old) (F.view folder.new) → ComesTidy result (asked memory.now name.now code.now n args.now) (F.view folder.old) (F.view folder.new) }
+    ensures answer { IsAnswer result (L.answer code.now args.now) (IsTrusted (root_of memory.now.location) L.answer (F.view folder.old) (F.view folder.new)) }
     ensures calls { CountsCall result (L.calls lib.old) (L.calls lib.new) }
     ensures loaded { L.loaded lib.new ≡ L.loaded lib.old }
-    ensures told { F.told folder.old → F.told folder.new }
-    ensures token { F.token folder.new ≡ F.token folder.old }
-    ensures opens { F.opens folder.new ≡ F.opens folder.old }
-    ensures faults { F.faults folder.old ≤ F.faults folder.new }
-    ensures host { H.token host.new ≡ H.token host.old }
+    ensures frame { FolderKeeps (F.view folder.old) (F.view folder.new) }
+    ensures host { HostKeeps (H.view host.old) (H.view host.new) }
+    ensures clock { (H.view host.old).told → LeftAfter result (H.view host.old) (H.view host.new) }
 {
     match look(alloc, memory, folder, name, code, args, warnings) {
         Look::Hit(value) => found(alloc, memory, folder, host, name, key, value, warnings),
@@ -327,7 +314,7 @@ pub fn call_cached<L: Library, F: Folder, H: Host>(
     args: &Args,
     warnings: &mut Vec<Warning>,
 ) -> Cached
-    requires token { F.token folder.old ≡ memory.now.token }
+    requires token { (F.view folder.old).token ≡ memory.now.token }
     requires module_name { IsTrue (is_name memory.now.«module») }
     requires function_name { IsTrue (is_name name.now) }
     requires defined { IsSome (L.code (L.loaded lib.old) name.now) }
@@ -335,39 +322,34 @@ pub fn call_cached<L: Library, F: Folder, H: Host>(
     requires proper { IsProperTree (args_tree args.now) }
     requires depth { nesting (args_tree args.now) ≤ 64 }
     requires size { length (text_of (args_tree args.now)) ≤ MOST_TEXT_BYTES }
-    // Lawful throughout, whatever others do.
-    ensures lawful { F.told folder.old → CallsFolder (IsLawful (root_of memory.now.location) L.answer) (IsLawful (root_of memory.now.location) L.answer) (F.token folder.old) AnyMove
-        (IsSound (root_of memory.now.location) L.answer) (IsSound (root_of memory.now.location) L.answer) (F.history folder.old) (F.history folder.new) }
+    // Lawful throughout, whatever others do, and its own moves are those of its answer.
+    ensures lawful { (F.view folder.old).told → CallsFolder (IsLawful (root_of memory.now.location) L.answer) (IsLawful (root_of memory.now.location) L.answer) (IsCalling result (entry_in memory.now name.now (key_of args.now)) (F.view folder.old).token)
+        (IsSound (root_of memory.now.location) L.answer) (IsSound (root_of memory.now.location) L.answer) (F.view folder.old) (F.view folder.new) }
+    // Each file that it puts in place has the text of this code, or that of its entry for one value, duration and moment; of these the answer and the clock tell.
+    ensures puts { (c : List ℕ) (n : ℕ) → L.code (L.loaded lib.old) name.now ≡ Some c → L.line (L.loaded lib.old) name.now ≡ n → (F.view folder.old).told → PutsFiles result (asked memory.now name.now c n args.now) (H.view host.old) (F.view folder.old) (F.view folder.new) }
+    // A value that was computed is kept in order: the output, the metadata, the last access.
+    ensures order { (F.view folder.old).told → IsOrdered result (IsBeforeOutput (entry_in memory.now name.now (key_of args.now)) (F.view folder.old).token) (entry_in memory.now name.now (key_of args.now)) (F.view folder.old).token (moved (F.view folder.old) (F.view folder.new)) }
+    // Entries are cleared only where the code's file held another code.
+    ensures clears { (c : List ℕ) → L.code (L.loaded lib.old) name.now ≡ Some c → (F.view folder.old).told → ClearsOnlyAnothers result (entry_in memory.now name.now (key_of args.now)) c (F.view folder.old) (F.view folder.new) }
     // A value or an error is the library's answer; of a value that was found this rests on the folder.
-    ensures answer { (c : List ℕ) → L.code (L.loaded lib.old) name.now ≡ Some c
-        → IsAnswer result (L.answer c args.now) (IsTrusted (root_of memory.now.location) L.answer (F.told folder.old) (F.history folder.old) (F.history folder.new)) }
+    ensures answer { (c : List ℕ) → L.code (L.loaded lib.old) name.now ≡ Some c → IsAnswer result (L.answer c args.now) (IsTrusted (root_of memory.now.location) L.answer (F.view folder.old) (F.view folder.new)) }
     ensures calls { CountsCall result (L.calls lib.old) (L.calls lib.new) }
     // A value was found where its entry was opened, and else the function was called.
-    ensures looks { (c : List ℕ) → L.code (L.loaded lib.old) name.now ≡ Some c →
-        ComesBy result (F.told folder.old) (output_path (root_of memory.now.location) memory.now.«module» name.now args.now) c args.now
-        (F.faults folder.old) (F.faults folder.new) (now (F.history folder.old)) (since (F.history folder.old) (F.history folder.new)) }
-    ensures tidy { (c : List ℕ) → L.code (L.loaded lib.old) name.now ≡ Some c → F.told folder.old → IsOrderly (root_of memory.now.location) (F.history folder.old) (F.history folder.new) →
-        ComesTidy result (output_path (root_of memory.now.location) memory.now.«module» name.now args.now) c args.now
-        (F.faults folder.old) (F.faults folder.new) (now (F.history folder.old)) (since (F.history folder.old) (F.history folder.new)) }
+    ensures looks { (c : List ℕ) (n : ℕ) → L.code (L.loaded lib.old) name.now ≡ Some c → L.line (L.loaded lib.old) name.now ≡ n → ComesBy result (asked memory.now name.now c n args.now) (F.view folder.old) (F.view folder.new) }
+    ensures tidy { (c : List ℕ) (n : ℕ) → L.code (L.loaded lib.old) name.now ≡ Some c → L.line (L.loaded lib.old) name.now ≡ n → (F.view folder.old).told → IsOrderly (root_of memory.now.location) (F.view folder.old) (F.view folder.new) → ComesTidy result (asked memory.now name.now c n args.now) (F.view folder.old) (F.view folder.new) }
     // Each warning is on this call, and has its cause.
-    ensures warns { (c : List ℕ) (n : ℕ) → L.code (L.loaded lib.old) name.now ≡ Some c → L.line (L.loaded lib.old) name.now ≡ n →
-        Warns warnings.old.items warnings.new.items (asked memory.now name.now c n args.now) (F.told folder.old) (F.faults folder.old) (F.faults folder.new) (F.history folder.old) (F.history folder.new) }
+    ensures warns { (c : List ℕ) (n : ℕ) → L.code (L.loaded lib.old) name.now ≡ Some c → L.line (L.loaded lib.old) name.now ≡ n → Warns (asked memory.now name.now c n args.now) warnings.old.items warnings.new.items (F.view folder.old) (F.view folder.new) }
     // Each part was done or warned of: the code's file was right or put in place, a value was found or there was no output, and its entry was renewed or a new one put in place.
-    ensures done { (c : List ℕ) (n : ℕ) → L.code (L.loaded lib.old) name.now ≡ Some c → L.line (L.loaded lib.old) name.now ≡ n → F.told folder.old →
-        DoesOrWarns result (asked memory.now name.now c n args.now) (now (F.history folder.old)) (since (F.history folder.old) (F.history folder.new)) warnings.old.items warnings.new.items }
+    ensures done { (c : List ℕ) (n : ℕ) → L.code (L.loaded lib.old) name.now ≡ Some c → L.line (L.loaded lib.old) name.now ≡ n → (F.view folder.old).told → DoesOrWarns result (asked memory.now name.now c n args.now) warnings.old.items warnings.new.items (F.view folder.old) (F.view folder.new) }
     // Where no other moved and no fault rose, it leaves the folder so: the code checked, and then the answer found or kept.
-    ensures alone { F.told folder.old → (c : List ℕ) (n : ℕ) → L.code (L.loaded lib.old) name.now ≡ Some c → L.line (L.loaded lib.old) name.now ≡ n →
-        IsLone (F.token folder.old) (since (F.history folder.old) (F.history folder.new)) → IsTidy (root_of memory.now.location) (now (F.history folder.old)) → (Rose (F.faults folder.old) (F.faults folder.new) → ⊥) →
-        (duration : ℕ) × (moment : ℕ) × LeavesNext result (asked memory.now name.now c n args.now) duration moment (now (F.history folder.old)) (now (F.history folder.new))
-        × (H.told host.old → AreTimed result duration moment (H.moments host.old)) }
-    ensures quiet { F.told folder.old → IsLone (F.token folder.old) (since (F.history folder.old) (F.history folder.new)) → IsSound (root_of memory.now.location) L.answer (now (F.history folder.old)) →
-        (Rose (F.faults folder.old) (F.faults folder.new) → ⊥) → WarnsOfOthers warnings.old.items warnings.new.items }
+    ensures alone { (F.view folder.old).told → (c : List ℕ) (n : ℕ) → L.code (L.loaded lib.old) name.now ≡ Some c → L.line (L.loaded lib.old) name.now ≡ n → IsLone (F.view folder.old).token (moved (F.view folder.old) (F.view folder.new)) → IsTidy (root_of memory.now.location) (state (F.view folder.old)) → (Rose (F.view folder.old).faults (F.view folder.new).faults → ⊥) →
+        (duration : ℕ) × (moment : ℕ) × LeavesNext result (asked memory.now name.now c n args.now) duration moment (state (F.view folder.old)) (state (F.view folder.new))
+        × ((H.view host.old).told → AreTimed result duration moment (H.view host.old)) }
+    ensures quiet { (F.view folder.old).told → IsLone (F.view folder.old).token (moved (F.view folder.old) (F.view folder.new)) → IsSound (root_of memory.now.location) L.answer (state (F.view folder.old)) → (Rose (F.view folder.old).faults (F.view folder.new).faults → ⊥) → WarnsOfOthers warnings.old.items warnings.new.items }
     ensures loaded { L.loaded lib.new ≡ L.loaded lib.old }
-    ensures told { F.told folder.old → F.told folder.new }
-    ensures token { F.token folder.new ≡ F.token folder.old }
-    ensures opens { F.opens folder.new ≡ F.opens folder.old }
-    ensures faults { F.faults folder.old ≤ F.faults folder.new }
-    ensures host { H.token host.new ≡ H.token host.old }
+    ensures frame { FolderKeeps (F.view folder.old) (F.view folder.new) }
+    ensures host { HostKeeps (H.view host.old) (H.view host.new) }
+    ensures clock { (H.view host.old).told → LeftAfter result (H.view host.old) (H.view host.new) }
 {
     let Ok(code) = code_in(alloc, lib, name) else {
         return Cached::NoMemory;

@@ -2,14 +2,15 @@
 ghost use Rattle.std.specs.Prelude.{◌≡◌, ◌≢◌, ◌⊎◌, ◌≤◌, true, Some, length, IsTrue, IfOk};
 ghost use Rattle.jl_text.specs.Paths.{PathView};
 ghost use Rattle.jl_text.specs.Texts.{is_name};
-ghost use Rattle.jl_folder.specs.State.{place_at, has_parent, now, since};
+ghost use Rattle.jl_text.specs.Counts.{Rose};
+ghost use Rattle.jl_text.specs.declared.limits.TheConstants.{MOST_TEXT_BYTES};
+ghost use Rattle.jl_folder.specs.State.{place_at, has_parent};
+ghost use Rattle.jl_folder.specs.Views.{FolderAnswers, state, moved};
 ghost use Rattle.jl_folder.specs.declared.moves.Place.{Place};
 ghost use Rattle.jl_folder.specs.Calls.{Waits};
-ghost use Rattle.jl_text.specs.Counts.{Faults, Rose};
-ghost use Rattle.jl_text.specs.declared.limits.TheConstants.{MOST_TEXT_BYTES};
 ghost use Rattle.jl_entry.specs.Codes.{code_text};
 ghost use Rattle.jl_entry.specs.Names.{Final, IsFinal, IsTemp, root_of, IsFunctionFolder};
-ghost use Rattle.jl_rely.specs.Steps.{AllSteps, IsLone};
+ghost use Rattle.jl_rely.specs.Steps.{IsLone};
 ghost use Rattle.jl_rely.specs.Touches.{TouchedByOther};
 ghost use Rattle.jl_rely.specs.Claims.{Called, Anywhere};
 ghost use Rattle.jl_protocol.specs.Whole.{Answers, IsWhole};
@@ -20,6 +21,7 @@ ghost use Rattle.jl_store.specs.Kinds.{IsFor, PutsThis, UsesNames};
 ghost use Rattle.jl_store.specs.Next.{ChecksAlone};
 ghost use Rattle.jl_store.specs.Publishing.{IsOfFile, IsPublished};
 ghost use Rattle.jl_store.specs.Checking.{IsHeld, Holds, AreFiles, IsDone, Stores, MovesFor, Comes, UsesCode, SkipsFor, Checks, IsChecking, check_of, function_path, code_path, code_temp};
+ghost use Rattle.jl_store.specs.Warned.{IsOrderly};
 
 use crate::checks::{CodeCheck, CodeFiles, Held};
 use crate::files::{Published, publish};
@@ -46,12 +48,9 @@ fn compare(code: &str, bytes: &[u8]) -> Held
 
 // What the code's file holds.
 fn held<F: Folder>(alloc: Global, folder: &mut F, last: &Path, code: &str) -> Held
-    ensures told { F.told folder.old → F.told folder.new }
-    ensures token { F.token folder.new ≡ F.token folder.old }
-    ensures waits { F.told folder.old → Waits (F.token folder.old) (F.history folder.old) (F.history folder.new) }
-    ensures opens { F.opens folder.new ≡ F.opens folder.old }
-    ensures faults { Faults (F.faults folder.old) (F.faults folder.new) (result ≡ Held.Fault) }
-    ensures holds { F.told folder.old → Holds last.now code.now result (now (F.history folder.old)) (since (F.history folder.old) (F.history folder.new)) }
+    ensures frame { FolderAnswers (result ≡ Held.Fault) (F.view folder.old) (F.view folder.new) }
+    ensures waits { (F.view folder.old).told → Waits (F.view folder.old) (F.view folder.new) }
+    ensures holds { (F.view folder.old).told → Holds last.now code.now result (state (F.view folder.old)) (moved (F.view folder.old) (F.view folder.new)) }
 {
     match read_final(alloc, folder, last) {
         FileRead::Bytes(bytes) => compare(code, bytes.as_slice()),
@@ -86,17 +85,17 @@ fn as_check(published: Published, done: CodeCheck) -> CodeCheck
 
 // Publishes the code's file.
 fn store<F: Folder>(folder: &mut F, files: &CodeFiles, bytes: &[u8], done: CodeCheck) -> CodeCheck
-    requires of_file { IsOfFile (F.token folder.old) files.now.last files.now.temp bytes.now }
+    requires of_file { IsOfFile (F.view folder.old).token files.now.last files.now.temp bytes.now }
     requires done { done ≢ CodeCheck.StoreFault }
     requires unskipped { done ≢ CodeCheck.Skipped }
-    ensures stores { Stores F.token F.told F.history F.opens F.faults files.now bytes.now (IsFor files.now.last files.now.temp) result folder.old folder.new }
+    ensures stores { Stores files.now bytes.now (IsFor files.now.last files.now.temp) result (F.view folder.old) (F.view folder.new) }
     ensures answer { (p : Published) × (result ≡ check_of p done) }
-    ensures skipped { F.told folder.old → result ≡ CodeCheck.Skipped → (root : PathView) (x : Final) →
-        IsTemp root x (F.token folder.old) files.now.temp → IsFinal root x files.now.last → IsWhole x bytes.now →
-        IsTidy root (now (F.history folder.old)) → has_parent (now (F.history folder.old)) files.now.last ≡ true →
-        TouchedByOther (F.token folder.old) (UsesNames files.now.last files.now.temp) (since (F.history folder.old) (F.history folder.new)) }
-    ensures alone { F.told folder.old → IsDone result → IsLone (F.token folder.old) (since (F.history folder.old) (F.history folder.new)) →
-        IsPublished files.now.last files.now.temp bytes.now (now (F.history folder.old)) (now (F.history folder.new)) }
+    ensures skipped { (F.view folder.old).told → result ≡ CodeCheck.Skipped → (root : PathView) (x : Final) →
+        IsTemp root x (F.view folder.old).token files.now.temp → IsFinal root x files.now.last → IsWhole x bytes.now →
+        IsTidy root (state (F.view folder.old)) → has_parent (state (F.view folder.old)) files.now.last ≡ true →
+        TouchedByOther (F.view folder.old).token (UsesNames files.now.last files.now.temp) (moved (F.view folder.old) (F.view folder.new)) }
+    ensures alone { (F.view folder.old).told → IsDone result → IsLone (F.view folder.old).token (moved (F.view folder.old) (F.view folder.new)) →
+        IsPublished files.now.last files.now.temp bytes.now (state (F.view folder.old)) (state (F.view folder.new)) }
 {
     let published = publish(folder, &files.last, &files.temp, bytes);
     as_check(published, done)
@@ -104,11 +103,11 @@ fn store<F: Folder>(folder: &mut F, files: &CodeFiles, bytes: &[u8], done: CodeC
 
 // Makes the folders and publishes the code.
 fn write_new<F: Folder>(alloc: Global, folder: &mut F, files: &CodeFiles, bytes: &[u8]) -> CodeCheck
-    requires { IsOfFile (F.token folder.old) files.now.last files.now.temp bytes.now }
-    ensures stores { Stores F.token F.told F.history F.opens F.faults files.now bytes.now (MovesFor files.now Held.Absent) result folder.old folder.new }
+    requires { IsOfFile (F.view folder.old).token files.now.last files.now.temp bytes.now }
+    ensures stores { Stores files.now bytes.now (MovesFor files.now Held.Absent) result (F.view folder.old) (F.view folder.new) }
     ensures comes { Comes result Held.Absent }
-    ensures skips { F.told folder.old → SkipsFor result (F.token folder.old) files.now bytes.now Anywhere (F.history folder.old) (F.history folder.new) }
-    ensures alone { F.told folder.old → IsLone (F.token folder.old) (since (F.history folder.old) (F.history folder.new)) → LeavesAlone result (F.token folder.old) files.now bytes.now (now (F.history folder.old)) (now (F.history folder.new)) }
+    ensures skips { (F.view folder.old).told → SkipsFor result files.now bytes.now Anywhere (F.view folder.old) (F.view folder.new) }
+    ensures alone { (F.view folder.old).told → IsLone (F.view folder.old).token (moved (F.view folder.old) (F.view folder.new)) → LeavesAlone result files.now bytes.now (F.view folder.old) (F.view folder.new) }
 {
     match make_folders(alloc, folder, &files.folder) {
         MadeFolders::Made => store(folder, files, bytes, CodeCheck::Written),
@@ -125,12 +124,12 @@ fn write_over<F: Folder>(
     files: &CodeFiles,
     bytes: &[u8],
 ) -> CodeCheck
-    requires of_file { IsOfFile (F.token folder.old) files.now.last files.now.temp bytes.now }
+    requires of_file { IsOfFile (F.view folder.old).token files.now.last files.now.temp bytes.now }
     requires of_function { (root : PathView) × IsFunctionFolder root files.now.folder }
-    ensures stores { Stores F.token F.told F.history F.opens F.faults files.now bytes.now (MovesFor files.now Held.Other) result folder.old folder.new }
+    ensures stores { Stores files.now bytes.now (MovesFor files.now Held.Other) result (F.view folder.old) (F.view folder.new) }
     ensures comes { Comes result Held.Other }
-    ensures skips { F.told folder.old → SkipsFor result (F.token folder.old) files.now bytes.now (λ s. place_at s files.now.folder ≡ Some Place.Folder) (F.history folder.old) (F.history folder.new) }
-    ensures alone { F.told folder.old → IsLone (F.token folder.old) (since (F.history folder.old) (F.history folder.new)) → LeavesAlone result (F.token folder.old) files.now bytes.now (now (F.history folder.old)) (now (F.history folder.new)) }
+    ensures skips { (F.view folder.old).told → SkipsFor result files.now bytes.now (λ s. place_at s files.now.folder ≡ Some Place.Folder) (F.view folder.old) (F.view folder.new) }
+    ensures alone { (F.view folder.old).told → IsLone (F.view folder.old).token (moved (F.view folder.old) (F.view folder.new)) → LeavesAlone result files.now bytes.now (F.view folder.old) (F.view folder.new) }
 {
     match clear_entries(alloc, folder, &files.folder) {
         Clear::Cleared => store(folder, files, bytes, CodeCheck::Cleared),
@@ -147,12 +146,12 @@ fn follow<F: Folder>(
     bytes: &[u8],
     held: Held,
 ) -> CodeCheck
-    requires of_file { IsOfFile (F.token folder.old) files.now.last files.now.temp bytes.now }
+    requires of_file { IsOfFile (F.view folder.old).token files.now.last files.now.temp bytes.now }
     requires of_function { (root : PathView) × IsFunctionFolder root files.now.folder }
-    ensures stores { Stores F.token F.told F.history F.opens F.faults files.now bytes.now (MovesFor files.now held) result folder.old folder.new }
+    ensures stores { Stores files.now bytes.now (MovesFor files.now held) result (F.view folder.old) (F.view folder.new) }
     ensures comes { Comes result held }
-    ensures skips { F.told folder.old → SkipsFor result (F.token folder.old) files.now bytes.now (λ s. held ≡ Held.Other → place_at s files.now.folder ≡ Some Place.Folder) (F.history folder.old) (F.history folder.new) }
-    ensures alone { F.told folder.old → IsLone (F.token folder.old) (since (F.history folder.old) (F.history folder.new)) → LeavesAlone result (F.token folder.old) files.now bytes.now (now (F.history folder.old)) (now (F.history folder.new)) }
+    ensures skips { (F.view folder.old).told → SkipsFor result files.now bytes.now (λ s. held ≡ Held.Other → place_at s files.now.folder ≡ Some Place.Folder) (F.view folder.old) (F.view folder.new) }
+    ensures alone { (F.view folder.old).told → IsLone (F.view folder.old).token (moved (F.view folder.old) (F.view folder.new)) → LeavesAlone result files.now bytes.now (F.view folder.old) (F.view folder.new) }
 {
     match held {
         Held::Same => CodeCheck::Same,
@@ -173,43 +172,39 @@ pub fn check_code<F: Folder>(
     code: &str,
     line: u64,
 ) -> CodeCheck
-    requires token { F.token folder.old ≡ memory.now.token }
+    requires token { (F.view folder.old).token ≡ memory.now.token }
     requires module_name { IsTrue (is_name memory.now.«module») }
     requires function_name { IsTrue (is_name name.now) }
     requires code { length code.now ≤ MOST_TEXT_BYTES }
     requires line { 1 ≤ line }
-    ensures told { F.told folder.old → F.told folder.new }
-    ensures token { F.token folder.new ≡ F.token folder.old }
-    ensures opens { F.opens folder.new ≡ F.opens folder.old }
-    ensures faults { Faults (F.faults folder.old) (F.faults folder.new) ((result ≡ CodeCheck.LoadFault) ⊎ (result ≡ CodeCheck.StoreFault)) }
-    ensures called { F.told folder.old → Called (IsProper (root_of memory.now.location))
+    ensures frame { FolderAnswers ((result ≡ CodeCheck.LoadFault) ⊎ (result ≡ CodeCheck.StoreFault)) (F.view folder.old) (F.view folder.new) }
+    ensures called { (F.view folder.old).told → Called (IsProper (root_of memory.now.location))
         (PutsThis (root_of memory.now.location) (code_path (root_of memory.now.location) memory.now.«module» name.now) (code_text code.now line))
-        memory.now.token
         (IsChecking (function_path (root_of memory.now.location) memory.now.«module» name.now)
         (code_path (root_of memory.now.location) memory.now.«module» name.now)
         (code_temp (root_of memory.now.location) memory.now.«module» name.now memory.now.token))
-        (IsTidy (root_of memory.now.location)) Anywhere (F.history folder.old) (F.history folder.new) }
-    ensures lawful { F.told folder.old → (answer : Answers) →
-        LawfulThroughout (root_of memory.now.location) answer memory.now.token (now (F.history folder.old)) (since (F.history folder.old) (F.history folder.new)) }
-    ensures checks { F.told folder.old → Checks result memory.now.token
+        (IsTidy (root_of memory.now.location)) Anywhere (F.view folder.old) (F.view folder.new) }
+    ensures lawful { (F.view folder.old).told → (answer : Answers) →
+        LawfulThroughout (root_of memory.now.location) answer memory.now.token (state (F.view folder.old)) (moved (F.view folder.old) (F.view folder.new)) }
+    // What the answer tells of the code's file at its opening, and of the own moves.
+    ensures checks { (F.view folder.old).told → Checks result
         (function_path (root_of memory.now.location) memory.now.«module» name.now)
         (code_path (root_of memory.now.location) memory.now.«module» name.now)
         (code_temp (root_of memory.now.location) memory.now.«module» name.now memory.now.token)
-        code.now (now (F.history folder.old)) (since (F.history folder.old) (F.history folder.new)) }
-    ensures skipped { F.told folder.old → result ≡ CodeCheck.Skipped → IsTidy (root_of memory.now.location) (now (F.history folder.old)) →
-        AllSteps (IsProper (root_of memory.now.location)) (now (F.history folder.old)) (since (F.history folder.old) (F.history folder.new)) →
+        code.now (F.view folder.old) (F.view folder.new) }
+    ensures skipped { (F.view folder.old).told → result ≡ CodeCheck.Skipped → IsOrderly (root_of memory.now.location) (F.view folder.old) (F.view folder.new) →
         TouchedByOther memory.now.token
         (UsesCode (function_path (root_of memory.now.location) memory.now.«module» name.now)
         (code_path (root_of memory.now.location) memory.now.«module» name.now)
         (code_temp (root_of memory.now.location) memory.now.«module» name.now memory.now.token))
-        (since (F.history folder.old) (F.history folder.new)) }
-    ensures alone { F.told folder.old → IsLone memory.now.token (since (F.history folder.old) (F.history folder.new)) → IsTidy (root_of memory.now.location) (now (F.history folder.old)) →
-        (Rose (F.faults folder.old) (F.faults folder.new) → ⊥) →
+        (moved (F.view folder.old) (F.view folder.new)) }
+    ensures alone { (F.view folder.old).told → IsLone memory.now.token (moved (F.view folder.old) (F.view folder.new)) → IsTidy (root_of memory.now.location) (state (F.view folder.old)) →
+        (Rose (F.view folder.old).faults (F.view folder.new).faults → ⊥) →
         ChecksAlone result
         (function_path (root_of memory.now.location) memory.now.«module» name.now)
         (code_path (root_of memory.now.location) memory.now.«module» name.now)
         (code_temp (root_of memory.now.location) memory.now.«module» name.now memory.now.token)
-        code.now (code_text code.now line) (now (F.history folder.old)) (now (F.history folder.new)) }
+        code.now (code_text code.now line) (state (F.view folder.old)) (state (F.view folder.new)) }
 {
     let Ok(files) = code_files(alloc, memory, name) else {
         return CodeCheck::NoMemory;

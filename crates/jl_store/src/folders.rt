@@ -1,13 +1,12 @@
 // Making the folders of the store.
 ghost use Rattle.std.specs.Prelude.{◌≡◌, ◌⊎◌, ◌++◌, ◌∷◌, ◌≤◌, [], false, IsTrue, IfOk, take, length};
 ghost use Rattle.jl_text.specs.Paths.{PathView, is_part, is_fixed};
-ghost use Rattle.jl_folder.specs.State.{now, since};
-ghost use Rattle.jl_text.specs.Counts.{Rose};
+ghost use Rattle.jl_folder.specs.Views.{FolderAnswers, state, moved};
 ghost use Rattle.jl_entry.specs.Names.{IsStoreFolder, IsFunctionFolder};
 ghost use Rattle.jl_rely.specs.Steps.{AllSteps, IsLone};
+ghost use Rattle.jl_rely.specs.Claims.{Moves};
 ghost use Rattle.jl_protocol.specs.Proper.{IsProper};
 ghost use Rattle.jl_protocol.specs.Tidy.{IsTidy};
-ghost use Rattle.jl_clear.specs.Doing.{Does};
 ghost use Rattle.jl_store.specs.Alone.{HasFolders};
 ghost use Rattle.jl_store.specs.Doing.{IsMaking};
 ghost use Rattle.jl_store.specs.Storing.{folders_of, StepOr, FoldersOr};
@@ -39,11 +38,11 @@ fn as_folders(made: MadeDir) -> MadeFolders
 // Makes one folder, where none is there.
 fn make_one<F: Folder>(folder: &mut F, path: &Path) -> MadeFolders
     requires { is_fixed path.now ≡ false }
-    ensures does { Does F.token F.told F.history F.opens F.faults (IsMaking path.now) folder.old folder.new }
-    ensures cause { result ≡ MadeFolders.Fault → Rose (F.faults folder.old) (F.faults folder.new) }
-    ensures step { F.told folder.old → (root : PathView) → IsStoreFolder root path.now → IsTidy root (now (F.history folder.old)) →
-        AllSteps (IsProper root) (now (F.history folder.old)) (since (F.history folder.old) (F.history folder.new)) →
-        StepOr result (F.token folder.old) path.now (F.history folder.old) (F.history folder.new) }
+    ensures frame { FolderAnswers (result ≡ MadeFolders.Fault) (F.view folder.old) (F.view folder.new) }
+    ensures moves { (F.view folder.old).told → Moves (IsMaking path.now) (F.view folder.old) (F.view folder.new) }
+    ensures step { (F.view folder.old).told → (root : PathView) → IsStoreFolder root path.now → IsTidy root (state (F.view folder.old)) →
+        AllSteps (IsProper root) (state (F.view folder.old)) (moved (F.view folder.old) (F.view folder.new)) →
+        StepOr result path.now (F.view folder.old) (F.view folder.new) }
 {
     let made = folder.make_dir(path);
     as_folders(made)
@@ -51,11 +50,11 @@ fn make_one<F: Folder>(folder: &mut F, path: &Path) -> MadeFolders
 
 // The same of a path that may be the current folder or the topmost, which are always there.
 fn make_step<F: Folder>(folder: &mut F, path: &Path) -> MadeFolders
-    ensures does { Does F.token F.told F.history F.opens F.faults (IsMaking path.now) folder.old folder.new }
-    ensures cause { result ≡ MadeFolders.Fault → Rose (F.faults folder.old) (F.faults folder.new) }
-    ensures step { F.told folder.old → (root : PathView) → IsTidy root (now (F.history folder.old)) →
-        AllSteps (IsProper root) (now (F.history folder.old)) (since (F.history folder.old) (F.history folder.new)) →
-        (is_fixed path.now ≡ false → IsStoreFolder root path.now) → StepOr result (F.token folder.old) path.now (F.history folder.old) (F.history folder.new) }
+    ensures frame { FolderAnswers (result ≡ MadeFolders.Fault) (F.view folder.old) (F.view folder.new) }
+    ensures moves { (F.view folder.old).told → Moves (IsMaking path.now) (F.view folder.old) (F.view folder.new) }
+    ensures step { (F.view folder.old).told → (root : PathView) → IsTidy root (state (F.view folder.old)) →
+        AllSteps (IsProper root) (state (F.view folder.old)) (moved (F.view folder.old) (F.view folder.new)) →
+        (is_fixed path.now ≡ false → IsStoreFolder root path.now) → StepOr result path.now (F.view folder.old) (F.view folder.new) }
 {
     if path.is_fixed() {
         return MadeFolders::Made;
@@ -89,14 +88,14 @@ fn prefix(alloc: Global, path: &Path, count: usize) -> Result<Path, AllocError>
 
 /// Makes a folder and those on the way to it, where they aren't there.
 pub(crate) fn make_folders<F: Folder>(alloc: Global, folder: &mut F, path: &Path) -> MadeFolders
-    ensures does { Does F.token F.told F.history F.opens F.faults (IsMaking path.now) folder.old folder.new }
-    ensures cause { result ≡ MadeFolders.Fault → Rose (F.faults folder.old) (F.faults folder.new) }
-    ensures folders { F.told folder.old → (root : PathView) → IsFunctionFolder root path.now → IsTidy root (now (F.history folder.old)) →
-        AllSteps (IsProper root) (now (F.history folder.old)) (since (F.history folder.old) (F.history folder.new)) →
-        FoldersOr result (F.token folder.old) path.now (F.history folder.old) (F.history folder.new) }
-    ensures alone { F.told folder.old → result ≡ MadeFolders.Made → IsLone (F.token folder.old) (since (F.history folder.old) (F.history folder.new)) →
-        (root : PathView) → IsFunctionFolder root path.now → IsTidy root (now (F.history folder.old)) →
-        HasFolders path.now (now (F.history folder.old)) (now (F.history folder.new)) }
+    ensures frame { FolderAnswers (result ≡ MadeFolders.Fault) (F.view folder.old) (F.view folder.new) }
+    ensures moves { (F.view folder.old).told → Moves (IsMaking path.now) (F.view folder.old) (F.view folder.new) }
+    ensures folders { (F.view folder.old).told → (root : PathView) → IsFunctionFolder root path.now → IsTidy root (state (F.view folder.old)) →
+        AllSteps (IsProper root) (state (F.view folder.old)) (moved (F.view folder.old) (F.view folder.new)) →
+        FoldersOr result path.now (F.view folder.old) (F.view folder.new) }
+    ensures alone { (F.view folder.old).told → result ≡ MadeFolders.Made → IsLone (F.view folder.old).token (moved (F.view folder.old) (F.view folder.new)) →
+        (root : PathView) → IsFunctionFolder root path.now → IsTidy root (state (F.view folder.old)) →
+        HasFolders path.now (state (F.view folder.old)) (state (F.view folder.new)) }
 {
     let count = path.parts().len();
     for i in 0..count {

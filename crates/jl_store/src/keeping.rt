@@ -1,14 +1,14 @@
 // Keeping an answer.
-ghost use Rattle.std.specs.Prelude.{◌≡◌, ◌≢◌, ◌⊎◌, ℕ, List, true, IfOk, IsTrue, ⊤};
+ghost use Rattle.std.specs.Prelude.{◌≡◌, ◌⊎◌, ℕ, List, true, IfOk, IsTrue, ⊤};
 ghost use Rattle.hex.specs.Hex.{encode_lower};
 ghost use Rattle.jl_text.specs.Texts.{is_name};
-ghost use Rattle.jl_folder.specs.State.{is_folder, now, since};
-ghost use Rattle.jl_text.specs.Counts.{Faults};
+ghost use Rattle.jl_folder.specs.State.{is_folder};
+ghost use Rattle.jl_folder.specs.Views.{FolderAnswers, state, moved};
 ghost use Rattle.jl_value.specs.Form.{tree_of};
 ghost use Rattle.jl_value.specs.Key.{key_of};
 ghost use Rattle.jl_entry.specs.Moments.{IsMoment, access_text};
 ghost use Rattle.jl_entry.specs.Names.{root_of, IsFinal, IsTemp};
-ghost use Rattle.jl_rely.specs.Steps.{IsLone};
+ghost use Rattle.jl_rely.specs.Steps.{IsLone, OwnMoves};
 ghost use Rattle.jl_rely.specs.Claims.{GoesOn};
 ghost use Rattle.jl_rely.specs.Touches.{TouchedByOther};
 ghost use Rattle.jl_protocol.specs.Tidy.{IsTidy};
@@ -16,7 +16,7 @@ ghost use Rattle.jl_protocol.specs.Whole.{IsWhole};
 ghost use Rattle.jl_clear.specs.Taking.{IsBeside};
 ghost use Rattle.jl_store.specs.Kinds.{UsesNames};
 ghost use Rattle.jl_store.specs.Publishing.{IsPublished};
-ghost use Rattle.jl_store.specs.Keeping.{entry_in, entry_path, function_path, file_of, last_of, temp_of, texts as texts_of, text_in, AreWhole, keep_of, made_of, IsKeepable, Keeps, KeepsFile, HasPutMoments, HasPutAll, IsMoments, IsAnyFile, Entry, UsesEntry, IsReadyFor, AreReady, IsReadyToKeep, IsReadyToTouch, HasFiles, HasEntry};
+ghost use Rattle.jl_store.specs.Keeping.{entry_in, entry_path, function_path, file_of, last_of, temp_of, texts as texts_of, text_in, AreWhole, keep_of, made_of, IsKeepable, Keeps, KeepsFile, HasPutMoments, HasPutAll, IsMakingEntry, MomentsInOrder, InOrder, IsMoments, IsAnyFile, Entry, UsesEntry, IsReadyFor, AreReady, IsReadyToKeep, IsReadyToTouch, HasFiles, HasEntry};
 ghost use Rattle.jl_store.specs.declared.keeping.EntryTexts.{EntryTexts};
 
 use crate::answer::Keep;
@@ -96,21 +96,18 @@ fn keep_file<F: Folder>(
     key: &Key,
     bytes: &[u8],
 ) -> Keep
-    requires token { F.token folder.old ≡ memory.now.token }
+    requires token { (F.view folder.old).token ≡ memory.now.token }
     requires module_name { IsTrue (is_name memory.now.«module») }
     requires function_name { IsTrue (is_name name.now) }
     requires whole { IsWhole (file_of (entry_in memory.now name.now key.now.0) file) bytes.now }
-    ensures told { F.told folder.old → F.told folder.new }
-    ensures goes { F.told folder.old → GoesOn (F.history folder.old) (F.history folder.new) }
-    ensures token { F.token folder.new ≡ F.token folder.old }
-    ensures opens { F.opens folder.new ≡ F.opens folder.old }
-    ensures faults { Faults (F.faults folder.old) (F.faults folder.new) (result ≡ Keep.Fault) }
-    ensures called { F.told folder.old → IsWhole (file_of (entry_in memory.now name.now key.now.0) file) bytes.now →
-        KeepsFile (entry_in memory.now name.now key.now.0) (F.token folder.old) file bytes.now (IsReadyFor (entry_in memory.now name.now key.now.0) (F.token folder.old) file) (F.history folder.old) (F.history folder.new) result }
-    ensures tidy { F.told folder.old → IsWhole (file_of (entry_in memory.now name.now key.now.0) file) bytes.now → result ≡ Keep.Skipped → IsReadyToTouch (entry_in memory.now name.now key.now.0) (now (F.history folder.old)) →
-        TouchedByOther (F.token folder.old) (UsesNames (last_of (entry_in memory.now name.now key.now.0) file) (temp_of (entry_in memory.now name.now key.now.0) (F.token folder.old) file)) (since (F.history folder.old) (F.history folder.new)) }
-    ensures alone { F.told folder.old → result ≡ Keep.Kept → IsLone (F.token folder.old) (since (F.history folder.old) (F.history folder.new)) →
-        IsPublished (last_of (entry_in memory.now name.now key.now.0) file) (temp_of (entry_in memory.now name.now key.now.0) (F.token folder.old) file) bytes.now (now (F.history folder.old)) (now (F.history folder.new)) }
+    ensures goes { (F.view folder.old).told → GoesOn (F.view folder.old) (F.view folder.new) }
+    ensures frame { FolderAnswers (result ≡ Keep.Fault) (F.view folder.old) (F.view folder.new) }
+    ensures called { (F.view folder.old).told → IsWhole (file_of (entry_in memory.now name.now key.now.0) file) bytes.now →
+        KeepsFile (entry_in memory.now name.now key.now.0) file bytes.now (IsReadyFor (entry_in memory.now name.now key.now.0) (F.view folder.old).token file) result (F.view folder.old) (F.view folder.new) }
+    ensures tidy { (F.view folder.old).told → IsWhole (file_of (entry_in memory.now name.now key.now.0) file) bytes.now → result ≡ Keep.Skipped → IsReadyToTouch (entry_in memory.now name.now key.now.0) (state (F.view folder.old)) →
+        TouchedByOther (F.view folder.old).token (UsesNames (last_of (entry_in memory.now name.now key.now.0) file) (temp_of (entry_in memory.now name.now key.now.0) (F.view folder.old).token file)) (moved (F.view folder.old) (F.view folder.new)) }
+    ensures alone { (F.view folder.old).told → result ≡ Keep.Kept → IsLone (F.view folder.old).token (moved (F.view folder.old) (F.view folder.new)) →
+        IsPublished (last_of (entry_in memory.now name.now key.now.0) file) (temp_of (entry_in memory.now name.now key.now.0) (F.view folder.old).token file) bytes.now (state (F.view folder.old)) (state (F.view folder.new)) }
 {
     match file_names(alloc, memory, file, name, key) {
         Ok(names) => as_keep(publish(folder, &names.last, &names.temp, bytes)),
@@ -126,19 +123,17 @@ fn make_entry<F: Folder>(
     name: &str,
     key: &Key,
 ) -> Keep
-    requires token { F.token folder.old ≡ memory.now.token }
+    requires token { (F.view folder.old).token ≡ memory.now.token }
     requires module_name { IsTrue (is_name memory.now.«module») }
     requires function_name { IsTrue (is_name name.now) }
-    ensures told { F.told folder.old → F.told folder.new }
-    ensures goes { F.told folder.old → GoesOn (F.history folder.old) (F.history folder.new) }
-    ensures token { F.token folder.new ≡ F.token folder.old }
-    ensures opens { F.opens folder.new ≡ F.opens folder.old }
-    ensures faults { Faults (F.faults folder.old) (F.faults folder.new) (result ≡ Keep.Fault) }
-    ensures called { F.told folder.old → (text : EntryFile → List ℕ) →
-        Keeps (entry_in memory.now name.now key.now.0) (F.token folder.old) text (λ s. is_folder s (function_path (entry_in memory.now name.now key.now.0)) ≡ true) (λ steps. ⊤) (F.history folder.old) (F.history folder.new) result }
-    ensures ready { F.told folder.old → result ≡ Keep.Kept → IsTidy (root_of memory.now.location) (now (F.history folder.old)) →
-        AreReady (entry_in memory.now name.now key.now.0) (F.token folder.old) IsAnyFile (now (F.history folder.new)) ⊎ TouchedByOther (F.token folder.old) (UsesEntry (entry_in memory.now name.now key.now.0) (F.token folder.old)) (since (F.history folder.old) (F.history folder.new)) }
-    ensures alone { F.told folder.old → result ≡ Keep.Kept → IsLone (F.token folder.old) (since (F.history folder.old) (F.history folder.new)) → IsBeside (λ p. p ≡ entry_path (entry_in memory.now name.now key.now.0)) (now (F.history folder.old)) (now (F.history folder.new)) }
+    ensures goes { (F.view folder.old).told → GoesOn (F.view folder.old) (F.view folder.new) }
+    ensures frame { FolderAnswers (result ≡ Keep.Fault) (F.view folder.old) (F.view folder.new) }
+    ensures makes { (F.view folder.old).told → OwnMoves (F.view folder.old).token (IsMakingEntry (entry_in memory.now name.now key.now.0)) (moved (F.view folder.old) (F.view folder.new)) }
+    ensures called { (F.view folder.old).told → (text : EntryFile → List ℕ) →
+        Keeps (entry_in memory.now name.now key.now.0) text (λ s. is_folder s (function_path (entry_in memory.now name.now key.now.0)) ≡ true) (λ steps. ⊤) result (F.view folder.old) (F.view folder.new) }
+    ensures ready { (F.view folder.old).told → result ≡ Keep.Kept → IsTidy (root_of memory.now.location) (state (F.view folder.old)) →
+        AreReady (entry_in memory.now name.now key.now.0) (F.view folder.old).token IsAnyFile (state (F.view folder.new)) ⊎ TouchedByOther (F.view folder.old).token (UsesEntry (entry_in memory.now name.now key.now.0) (F.view folder.old).token) (moved (F.view folder.old) (F.view folder.new)) }
+    ensures alone { (F.view folder.old).told → result ≡ Keep.Kept → IsLone (F.view folder.old).token (moved (F.view folder.old) (F.view folder.new)) → IsBeside (λ p. p ≡ entry_path (entry_in memory.now name.now key.now.0)) (state (F.view folder.old)) (state (F.view folder.new)) }
 {
     let _token = memory.token.as_str();
     match entry_folder(alloc, &memory.location, memory.module.as_str(), name, key) {
@@ -156,19 +151,17 @@ fn keep_moments<F: Folder>(
     key: &Key,
     texts: &EntryTexts,
 ) -> Keep
-    requires token { F.token folder.old ≡ memory.now.token }
+    requires token { (F.view folder.old).token ≡ memory.now.token }
     requires module_name { IsTrue (is_name memory.now.«module») }
     requires function_name { IsTrue (is_name name.now) }
     requires whole { AreWhole (entry_in memory.now name.now key.now.0) (text_in texts.now) }
-    ensures told { F.told folder.old → F.told folder.new }
-    ensures goes { F.told folder.old → GoesOn (F.history folder.old) (F.history folder.new) }
-    ensures token { F.token folder.new ≡ F.token folder.old }
-    ensures opens { F.opens folder.new ≡ F.opens folder.old }
-    ensures faults { Faults (F.faults folder.old) (F.faults folder.new) (result ≡ Keep.Fault) }
-    ensures called { F.told folder.old → AreWhole (entry_in memory.now name.now key.now.0) (text_in texts.now) →
-        Keeps (entry_in memory.now name.now key.now.0) (F.token folder.old) (text_in texts.now) (AreReady (entry_in memory.now name.now key.now.0) (F.token folder.old) IsMoments) (HasPutMoments (entry_in memory.now name.now key.now.0) (F.token folder.old)) (F.history folder.old) (F.history folder.new) result }
-    ensures alone { F.told folder.old → AreWhole (entry_in memory.now name.now key.now.0) (text_in texts.now) → result ≡ Keep.Kept → IsLone (F.token folder.old) (since (F.history folder.old) (F.history folder.new)) →
-        HasFiles (entry_in memory.now name.now key.now.0) (F.token folder.old) (text_in texts.now) IsMoments (now (F.history folder.old)) (now (F.history folder.new)) }
+    ensures goes { (F.view folder.old).told → GoesOn (F.view folder.old) (F.view folder.new) }
+    ensures frame { FolderAnswers (result ≡ Keep.Fault) (F.view folder.old) (F.view folder.new) }
+    ensures order { (F.view folder.old).told → MomentsInOrder (entry_in memory.now name.now key.now.0) (F.view folder.old).token (moved (F.view folder.old) (F.view folder.new)) }
+    ensures called { (F.view folder.old).told → AreWhole (entry_in memory.now name.now key.now.0) (text_in texts.now) →
+        Keeps (entry_in memory.now name.now key.now.0) (text_in texts.now) (AreReady (entry_in memory.now name.now key.now.0) (F.view folder.old).token IsMoments) (HasPutMoments (entry_in memory.now name.now key.now.0) (F.view folder.old).token) result (F.view folder.old) (F.view folder.new) }
+    ensures alone { (F.view folder.old).told → AreWhole (entry_in memory.now name.now key.now.0) (text_in texts.now) → result ≡ Keep.Kept → IsLone (F.view folder.old).token (moved (F.view folder.old) (F.view folder.new)) →
+        HasFiles (entry_in memory.now name.now key.now.0) (F.view folder.old).token (text_in texts.now) IsMoments (state (F.view folder.old)) (state (F.view folder.new)) }
 {
     let metadata = texts.metadata.as_slice();
     match keep_file(
@@ -199,19 +192,17 @@ fn keep_files<F: Folder>(
     key: &Key,
     texts: &EntryTexts,
 ) -> Keep
-    requires token { F.token folder.old ≡ memory.now.token }
+    requires token { (F.view folder.old).token ≡ memory.now.token }
     requires module_name { IsTrue (is_name memory.now.«module») }
     requires function_name { IsTrue (is_name name.now) }
     requires whole { AreWhole (entry_in memory.now name.now key.now.0) (text_in texts.now) }
-    ensures told { F.told folder.old → F.told folder.new }
-    ensures goes { F.told folder.old → GoesOn (F.history folder.old) (F.history folder.new) }
-    ensures token { F.token folder.new ≡ F.token folder.old }
-    ensures opens { F.opens folder.new ≡ F.opens folder.old }
-    ensures faults { Faults (F.faults folder.old) (F.faults folder.new) (result ≡ Keep.Fault) }
-    ensures called { F.told folder.old → AreWhole (entry_in memory.now name.now key.now.0) (text_in texts.now) →
-        Keeps (entry_in memory.now name.now key.now.0) (F.token folder.old) (text_in texts.now) (AreReady (entry_in memory.now name.now key.now.0) (F.token folder.old) IsAnyFile) (HasPutAll (entry_in memory.now name.now key.now.0) (F.token folder.old)) (F.history folder.old) (F.history folder.new) result }
-    ensures alone { F.told folder.old → AreWhole (entry_in memory.now name.now key.now.0) (text_in texts.now) → result ≡ Keep.Kept → IsLone (F.token folder.old) (since (F.history folder.old) (F.history folder.new)) →
-        HasFiles (entry_in memory.now name.now key.now.0) (F.token folder.old) (text_in texts.now) IsAnyFile (now (F.history folder.old)) (now (F.history folder.new)) }
+    ensures goes { (F.view folder.old).told → GoesOn (F.view folder.old) (F.view folder.new) }
+    ensures frame { FolderAnswers (result ≡ Keep.Fault) (F.view folder.old) (F.view folder.new) }
+    ensures order { (F.view folder.old).told → InOrder (IsMakingEntry (entry_in memory.now name.now key.now.0)) (entry_in memory.now name.now key.now.0) (F.view folder.old).token (moved (F.view folder.old) (F.view folder.new)) }
+    ensures called { (F.view folder.old).told → AreWhole (entry_in memory.now name.now key.now.0) (text_in texts.now) →
+        Keeps (entry_in memory.now name.now key.now.0) (text_in texts.now) (AreReady (entry_in memory.now name.now key.now.0) (F.view folder.old).token IsAnyFile) (HasPutAll (entry_in memory.now name.now key.now.0) (F.view folder.old).token) result (F.view folder.old) (F.view folder.new) }
+    ensures alone { (F.view folder.old).told → AreWhole (entry_in memory.now name.now key.now.0) (text_in texts.now) → result ≡ Keep.Kept → IsLone (F.view folder.old).token (moved (F.view folder.old) (F.view folder.new)) →
+        HasFiles (entry_in memory.now name.now key.now.0) (F.view folder.old).token (text_in texts.now) IsAnyFile (state (F.view folder.old)) (state (F.view folder.new)) }
 {
     let output = texts.output.as_slice();
     match keep_file(alloc, memory, folder, EntryFile::Output, name, key, output) {
@@ -231,19 +222,17 @@ fn keep_texts<F: Folder>(
     key: &Key,
     texts: &EntryTexts,
 ) -> Keep
-    requires token { F.token folder.old ≡ memory.now.token }
+    requires token { (F.view folder.old).token ≡ memory.now.token }
     requires module_name { IsTrue (is_name memory.now.«module») }
     requires function_name { IsTrue (is_name name.now) }
     requires whole { AreWhole (entry_in memory.now name.now key.now.0) (text_in texts.now) }
-    ensures told { F.told folder.old → F.told folder.new }
-    ensures goes { F.told folder.old → GoesOn (F.history folder.old) (F.history folder.new) }
-    ensures token { F.token folder.new ≡ F.token folder.old }
-    ensures opens { F.opens folder.new ≡ F.opens folder.old }
-    ensures faults { Faults (F.faults folder.old) (F.faults folder.new) (result ≡ Keep.Fault) }
-    ensures called { F.told folder.old → AreWhole (entry_in memory.now name.now key.now.0) (text_in texts.now) →
-        Keeps (entry_in memory.now name.now key.now.0) (F.token folder.old) (text_in texts.now) (IsReadyToKeep (entry_in memory.now name.now key.now.0)) (HasPutAll (entry_in memory.now name.now key.now.0) (F.token folder.old)) (F.history folder.old) (F.history folder.new) result }
-    ensures alone { F.told folder.old → AreWhole (entry_in memory.now name.now key.now.0) (text_in texts.now) → result ≡ Keep.Kept → IsLone (F.token folder.old) (since (F.history folder.old) (F.history folder.new)) →
-        HasEntry (entry_in memory.now name.now key.now.0) (F.token folder.old) (text_in texts.now) (now (F.history folder.old)) (now (F.history folder.new)) }
+    ensures goes { (F.view folder.old).told → GoesOn (F.view folder.old) (F.view folder.new) }
+    ensures frame { FolderAnswers (result ≡ Keep.Fault) (F.view folder.old) (F.view folder.new) }
+    ensures order { (F.view folder.old).told → InOrder (IsMakingEntry (entry_in memory.now name.now key.now.0)) (entry_in memory.now name.now key.now.0) (F.view folder.old).token (moved (F.view folder.old) (F.view folder.new)) }
+    ensures called { (F.view folder.old).told → AreWhole (entry_in memory.now name.now key.now.0) (text_in texts.now) →
+        Keeps (entry_in memory.now name.now key.now.0) (text_in texts.now) (IsReadyToKeep (entry_in memory.now name.now key.now.0)) (HasPutAll (entry_in memory.now name.now key.now.0) (F.view folder.old).token) result (F.view folder.old) (F.view folder.new) }
+    ensures alone { (F.view folder.old).told → AreWhole (entry_in memory.now name.now key.now.0) (text_in texts.now) → result ≡ Keep.Kept → IsLone (F.view folder.old).token (moved (F.view folder.old) (F.view folder.new)) →
+        HasEntry (entry_in memory.now name.now key.now.0) (F.view folder.old).token (text_in texts.now) (state (F.view folder.old)) (state (F.view folder.new)) }
 {
     match make_entry(alloc, memory, folder, name, key) {
         Keep::Kept => keep_files(alloc, memory, folder, name, key, texts),
@@ -291,19 +280,18 @@ pub fn keep<F: Folder>(
     duration: u64,
     moment: u64,
 ) -> Keep
-    requires token { F.token folder.old ≡ memory.now.token }
+    requires token { (F.view folder.old).token ≡ memory.now.token }
     requires module_name { IsTrue (is_name memory.now.«module») }
     requires function_name { IsTrue (is_name name.now) }
     requires keepable { IsKeepable code.now args.now (tree_of value.now) }
     requires duration { IsMoment duration }
     requires moment { IsMoment moment }
-    ensures told { F.told folder.old → F.told folder.new }
-    ensures goes { F.told folder.old → GoesOn (F.history folder.old) (F.history folder.new) }
-    ensures token { F.token folder.new ≡ F.token folder.old }
-    ensures opens { F.opens folder.new ≡ F.opens folder.old }
-    ensures faults { Faults (F.faults folder.old) (F.faults folder.new) (result ≡ Keep.Fault) }
-    ensures called { F.told folder.old → Keeps (entry_in memory.now name.now (key_of args.now)) (F.token folder.old) (texts_of code.now args.now (tree_of value.now) duration moment) (IsReadyToKeep (entry_in memory.now name.now (key_of args.now))) (HasPutAll (entry_in memory.now name.now (key_of args.now)) (F.token folder.old)) (F.history folder.old) (F.history folder.new) result }
-    ensures alone { F.told folder.old → result ≡ Keep.Kept → IsLone (F.token folder.old) (since (F.history folder.old) (F.history folder.new)) → HasEntry (entry_in memory.now name.now (key_of args.now)) (F.token folder.old) (texts_of code.now args.now (tree_of value.now) duration moment) (now (F.history folder.old)) (now (F.history folder.new)) }
+    ensures goes { (F.view folder.old).told → GoesOn (F.view folder.old) (F.view folder.new) }
+    ensures frame { FolderAnswers (result ≡ Keep.Fault) (F.view folder.old) (F.view folder.new) }
+    // The output is put in place before there is anything of the metadata, and the metadata before there is anything of the last access.
+    ensures order { (F.view folder.old).told → InOrder (IsMakingEntry (entry_in memory.now name.now (key_of args.now))) (entry_in memory.now name.now (key_of args.now)) (F.view folder.old).token (moved (F.view folder.old) (F.view folder.new)) }
+    ensures called { (F.view folder.old).told → Keeps (entry_in memory.now name.now (key_of args.now)) (texts_of code.now args.now (tree_of value.now) duration moment) (IsReadyToKeep (entry_in memory.now name.now (key_of args.now))) (HasPutAll (entry_in memory.now name.now (key_of args.now)) (F.view folder.old).token) result (F.view folder.old) (F.view folder.new) }
+    ensures alone { (F.view folder.old).told → result ≡ Keep.Kept → IsLone (F.view folder.old).token (moved (F.view folder.old) (F.view folder.new)) → HasEntry (entry_in memory.now name.now (key_of args.now)) (F.view folder.old).token (texts_of code.now args.now (tree_of value.now) duration moment) (state (F.view folder.old)) (state (F.view folder.new)) }
 {
     let Ok(key) = digest(alloc, args) else {
         return Keep::NoMemory;
@@ -323,18 +311,15 @@ pub fn touch<F: Folder>(
     key: &Key,
     moment: u64,
 ) -> Keep
-    requires token { F.token folder.old ≡ memory.now.token }
+    requires token { (F.view folder.old).token ≡ memory.now.token }
     requires module_name { IsTrue (is_name memory.now.«module») }
     requires function_name { IsTrue (is_name name.now) }
     requires moment { IsMoment moment }
-    ensures told { F.told folder.old → F.told folder.new }
-    ensures goes { F.told folder.old → GoesOn (F.history folder.old) (F.history folder.new) }
-    ensures token { F.token folder.new ≡ F.token folder.old }
-    ensures opens { F.opens folder.new ≡ F.opens folder.old }
-    ensures faults { Faults (F.faults folder.old) (F.faults folder.new) (result ≡ Keep.Fault) }
-    ensures called { F.told folder.old → KeepsFile (entry_in memory.now name.now key.now.0) (F.token folder.old) EntryFile.Access (access_text moment) (IsReadyToTouch (entry_in memory.now name.now key.now.0)) (F.history folder.old) (F.history folder.new) result }
-    ensures alone { F.told folder.old → result ≡ Keep.Kept → IsLone (F.token folder.old) (since (F.history folder.old) (F.history folder.new)) →
-        IsPublished (last_of (entry_in memory.now name.now key.now.0) EntryFile.Access) (temp_of (entry_in memory.now name.now key.now.0) (F.token folder.old) EntryFile.Access) (access_text moment) (now (F.history folder.old)) (now (F.history folder.new)) }
+    ensures goes { (F.view folder.old).told → GoesOn (F.view folder.old) (F.view folder.new) }
+    ensures frame { FolderAnswers (result ≡ Keep.Fault) (F.view folder.old) (F.view folder.new) }
+    ensures called { (F.view folder.old).told → KeepsFile (entry_in memory.now name.now key.now.0) EntryFile.Access (access_text moment) (IsReadyToTouch (entry_in memory.now name.now key.now.0)) result (F.view folder.old) (F.view folder.new) }
+    ensures alone { (F.view folder.old).told → result ≡ Keep.Kept → IsLone (F.view folder.old).token (moved (F.view folder.old) (F.view folder.new)) →
+        IsPublished (last_of (entry_in memory.now name.now key.now.0) EntryFile.Access) (temp_of (entry_in memory.now name.now key.now.0) (F.view folder.old).token EntryFile.Access) (access_text moment) (state (F.view folder.old)) (state (F.view folder.new)) }
 {
     match write_access(alloc, moment) {
         Ok(bytes) => keep_file(

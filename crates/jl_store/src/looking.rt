@@ -1,15 +1,14 @@
 // Looking for an answer in the cache.
-ghost use Rattle.std.specs.Prelude.{◌≡◌, ◌++◌, ◌∷◌, [], IsTrue, OnOk, OnErr};
+ghost use Rattle.std.specs.Prelude.{◌≡◌, ◌<◌, ◌++◌, ◌∷◌, [], ℕ, IsTrue, IfOk, OnOk, OnErr, vec_len, vec_capacity};
 ghost use Rattle.jl_text.specs.Texts.{is_name};
-ghost use Rattle.jl_folder.specs.State.{now, since};
+ghost use Rattle.jl_folder.specs.Views.{FolderAnswers, state, moved};
 ghost use Rattle.jl_folder.specs.Calls.{Waits};
-ghost use Rattle.jl_text.specs.Counts.{Faults};
 ghost use Rattle.jl_entry.specs.Names.{root_of};
-ghost use Rattle.jl_rely.specs.Steps.{AllSteps};
 ghost use Rattle.jl_protocol.specs.Whole.{Answers};
-ghost use Rattle.jl_protocol.specs.Proper.{IsProper, IsLawful};
-ghost use Rattle.jl_protocol.specs.Tidy.{IsTidy, IsSound};
-ghost use Rattle.jl_store.specs.Looking.{IsJudged, Finds, IsMiss, IsSettled, Looks, LooksTidy, IsAnswered, output_path};
+ghost use Rattle.jl_store.specs.Asked.{asked};
+ghost use Rattle.jl_store.specs.Looking.{IsJudged, Finds, IsMiss, IsSettled, Looks, LooksTidy, IsAnswered, warning};
+ghost use Rattle.jl_store.specs.Trust.{IsTrusted};
+ghost use Rattle.jl_store.specs.Warned.{IsOrderly};
 
 use crate::found::{Found, Look};
 use crate::memory::{Memory, WarnKind, Warning};
@@ -37,13 +36,9 @@ fn judge(alloc: Global, code: &str, args: &Args, bytes: &[u8]) -> Found
 
 // Reads an output through one open number, and compares.
 fn find<F: Folder>(alloc: Global, folder: &mut F, output: &Path, code: &str, args: &Args) -> Found
-    ensures told { F.told folder.old → F.told folder.new }
-    ensures token { F.token folder.new ≡ F.token folder.old }
-    ensures waits { F.told folder.old → Waits (F.token folder.old) (F.history folder.old) (F.history folder.new) }
-    ensures opens { F.opens folder.new ≡ F.opens folder.old }
-    ensures faults { Faults (F.faults folder.old) (F.faults folder.new) (result ≡ Found.Fault) }
-    ensures finds { F.told folder.old →
-        Finds output.now code.now args.now result (now (F.history folder.old)) (since (F.history folder.old) (F.history folder.new)) }
+    ensures frame { FolderAnswers (result ≡ Found.Fault) (F.view folder.old) (F.view folder.new) }
+    ensures waits { (F.view folder.old).told → Waits (F.view folder.old) (F.view folder.new) }
+    ensures finds { (F.view folder.old).told → Finds output.now code.now args.now result (state (F.view folder.old)) (moved (F.view folder.old) (F.view folder.new)) }
 {
     match read_final(alloc, folder, output) {
         FileRead::Bytes(bytes) => judge(alloc, code, args, bytes.as_slice()),
@@ -69,26 +64,39 @@ pub fn warn(
     Ok(())
 }
 
-// A miss that is warned of.
-fn miss(alloc: Global, warnings: &mut Vec<Warning>, kind: WarnKind, name: &str, key: Key) -> Look
-    ensures { IsMiss result kind name.now key warnings.old.items warnings.new.items }
+// Makes room for one warning more, and the name that it is to bear.
+fn make_room(alloc: Global, warnings: &mut Vec<Warning>, name: &str) -> Result<Text, AllocError>
+    ensures name { IfOk result (λ t. t ≡ name.now) }
+    ensures items { warnings.new.items ≡ warnings.old.items }
+    ensures room { OnOk result (vec_len warnings.new < vec_capacity warnings.new) }
 {
-    match warn(alloc, warnings, kind, name, key) {
-        Ok(()) => Look::Miss,
-        Err(_) => Look::NoMemory,
-    }
+    let name = Text::new(String::from_str(alloc, name)?);
+    warnings.reserve(1)?;
+    Ok(name)
+}
+
+// A miss that is warned of, where there is room for the warning.
+fn miss(warnings: &mut Vec<Warning>, kind: WarnKind, name: Text, key: Key) -> Look
+    requires { vec_len warnings.old < vec_capacity warnings.old }
+    ensures { IsMiss result kind name key warnings.old.items warnings.new.items }
+{
+    let Ok(()) = warnings.push(Warning { kind, name, key }) else {
+        unreachable!()
+    };
+    Look::Miss
 }
 
 // The answer of a look, and its warning.
-fn settle(alloc: Global, found: Found, name: &str, key: Key, warnings: &mut Vec<Warning>) -> Look
-    ensures { IsSettled result found name.now key warnings.old.items warnings.new.items }
+fn settle(found: Found, name: Text, key: Key, warnings: &mut Vec<Warning>) -> Look
+    requires { vec_len warnings.old < vec_capacity warnings.old }
+    ensures { IsSettled result found name key warnings.old.items warnings.new.items }
 {
     match found {
         Found::Value(value) => Look::Hit(value),
         Found::Absent => Look::Miss,
-        Found::NotMine => miss(alloc, warnings, WarnKind::NotMine, name, key),
-        Found::Damaged => miss(alloc, warnings, WarnKind::Damaged, name, key),
-        Found::Fault => miss(alloc, warnings, WarnKind::LoadFault, name, key),
+        Found::NotMine => miss(warnings, WarnKind::NotMine, name, key),
+        Found::Damaged => miss(warnings, WarnKind::Damaged, name, key),
+        Found::Fault => miss(warnings, WarnKind::LoadFault, name, key),
         Found::NoMemory => Look::NoMemory,
     }
 }
@@ -106,22 +114,13 @@ pub fn look<F: Folder>(
 ) -> Look
     requires module_name { IsTrue (is_name memory.now.«module») }
     requires function_name { IsTrue (is_name name.now) }
-    ensures told { F.told folder.old → F.told folder.new }
-    ensures token { F.token folder.new ≡ F.token folder.old }
-    ensures waits { F.told folder.old → Waits (F.token folder.old) (F.history folder.old) (F.history folder.new) }
-    ensures opens { F.opens folder.new ≡ F.opens folder.old }
-    ensures faults { Faults (F.faults folder.old) (F.faults folder.new) ⊥ }
-    ensures looks { Looks result warnings.old.items warnings.new.items name.now (F.told folder.old)
-        (output_path (root_of memory.now.location) memory.now.«module» name.now args.now) code.now args.now
-        (F.faults folder.old) (F.faults folder.new) (now (F.history folder.old)) (since (F.history folder.old) (F.history folder.new)) }
-    ensures tidy { F.told folder.old → IsTidy (root_of memory.now.location) (now (F.history folder.old)) →
-        AllSteps (IsProper (root_of memory.now.location)) (now (F.history folder.old)) (since (F.history folder.old) (F.history folder.new)) →
-        LooksTidy result warnings.old.items warnings.new.items name.now
-        (output_path (root_of memory.now.location) memory.now.«module» name.now args.now) code.now args.now
-        (F.faults folder.old) (F.faults folder.new) (now (F.history folder.old)) (since (F.history folder.old) (F.history folder.new)) }
-    ensures sound { F.told folder.old → (answer : Answers) → IsSound (root_of memory.now.location) answer (now (F.history folder.old)) →
-        AllSteps (IsLawful (root_of memory.now.location) answer) (now (F.history folder.old)) (since (F.history folder.old) (F.history folder.new)) →
-        IsAnswered result answer code.now args.now }
+    // A fault rose exactly where a load fault is warned of: want of memory is never told in its place.
+    ensures frame { FolderAnswers (warnings.new.items ≡ warnings.old.items ++ warning WarnKind.LoadFault name.now args.now ∷ []) (F.view folder.old) (F.view folder.new) }
+    ensures waits { (F.view folder.old).told → Waits (F.view folder.old) (F.view folder.new) }
+    ensures looks { (n : ℕ) → Looks result (asked memory.now name.now code.now n args.now) warnings.old.items warnings.new.items (F.view folder.old) (F.view folder.new) }
+    ensures tidy { (F.view folder.old).told → (n : ℕ) → IsOrderly (root_of memory.now.location) (F.view folder.old) (F.view folder.new) →
+        LooksTidy result (asked memory.now name.now code.now n args.now) warnings.old.items warnings.new.items (F.view folder.old) (F.view folder.new) }
+    ensures sound { (answer : Answers) → IsTrusted (root_of memory.now.location) answer (F.view folder.old) (F.view folder.new) → IsAnswered result answer code.now args.now }
 {
     let Ok(key) = digest(alloc, args) else {
         return Look::NoMemory;
@@ -137,6 +136,9 @@ pub fn look<F: Folder>(
     ) else {
         return Look::NoMemory;
     };
+    let Ok(text) = make_room(alloc, warnings, name) else {
+        return Look::NoMemory;
+    };
     let found = find(alloc, folder, &output, code, args);
-    settle(alloc, found, name, key, warnings)
+    settle(found, text, key, warnings)
 }

@@ -1,8 +1,8 @@
 // The temporary file, before it has its final name.
-ghost use Rattle.std.specs.Prelude.{◌≡◌, true, false, ⊤};
-ghost use Rattle.jl_folder.specs.State.{is_folder, has_parent, now, since};
+ghost use Rattle.std.specs.Prelude.{◌≡◌, true, false};
+ghost use Rattle.jl_folder.specs.State.{is_folder, has_parent};
+ghost use Rattle.jl_folder.specs.Views.{FolderAnswers, FolderTurns, FolderKeeps, state, moved};
 ghost use Rattle.jl_folder.specs.Calls.{Call};
-ghost use Rattle.jl_text.specs.Counts.{Faults};
 ghost use Rattle.jl_rely.specs.Steps.{IsLone};
 ghost use Rattle.jl_rely.specs.Claims.{Anywhere, GoesOn};
 ghost use Rattle.jl_rely.specs.Touches.{TouchedByOther};
@@ -31,11 +31,9 @@ pub(crate) enum Taken {
 
 // One attempt.
 fn make_file<F: Folder>(folder: &mut F, temp: &Path) -> TempFile
-    ensures told { F.told folder.old → F.told folder.new }
-    ensures token { F.token folder.new ≡ F.token folder.old }
-    ensures opens { TempOpens result (F.opens folder.old) (F.opens folder.new) }
-    ensures faults { Faults (F.faults folder.old) (F.faults folder.new) (result ≡ TempFile.Fault) }
-    ensures call { F.told folder.old → Call (F.token folder.old) (F.history folder.old) (F.history folder.new) (MakesFile temp.now (F.opens folder.new) result) }
+    ensures opens { TempOpens result (F.view folder.old) (F.view folder.new) }
+    ensures frame { FolderTurns (result ≡ TempFile.Fault) (F.view folder.old) (F.view folder.new) }
+    ensures call { (F.view folder.old).told → Call (F.view folder.old) (F.view folder.new) (MakesFile temp.now (F.view folder.new).opens result) }
 {
     match folder.create(temp) {
         Created::Made(number) => TempFile::File(number),
@@ -48,11 +46,8 @@ fn make_file<F: Folder>(folder: &mut F, temp: &Path) -> TempFile
 
 // Takes the name away from a file.
 fn take_away<F: Folder>(folder: &mut F, temp: &Path) -> Taken
-    ensures told { F.told folder.old → F.told folder.new }
-    ensures token { F.token folder.new ≡ F.token folder.old }
-    ensures opens { F.opens folder.new ≡ F.opens folder.old }
-    ensures faults { Faults (F.faults folder.old) (F.faults folder.new) (result ≡ Taken.Fault) }
-    ensures call { F.told folder.old → Call (F.token folder.old) (F.history folder.old) (F.history folder.new) (TakesAway temp.now result) }
+    ensures frame { FolderAnswers (result ≡ Taken.Fault) (F.view folder.old) (F.view folder.new) }
+    ensures call { (F.view folder.old).told → Call (F.view folder.old) (F.view folder.new) (TakesAway temp.now result) }
 {
     match folder.remove(temp) {
         Removed::Done => Taken::Away,
@@ -64,17 +59,15 @@ fn take_away<F: Folder>(folder: &mut F, temp: &Path) -> Taken
 
 // Makes the file where its name was taken, as by a dead run of the same token: the name is taken away once.
 fn replace_file<F: Folder>(folder: &mut F, temp: &Path) -> TempFile
-    ensures told { F.told folder.old → F.told folder.new }
-    ensures goes { F.told folder.old → GoesOn (F.history folder.old) (F.history folder.new) }
-    ensures token { F.token folder.new ≡ F.token folder.old }
-    ensures opens { TempOpens result (F.opens folder.old) (F.opens folder.new) }
-    ensures faults { Faults (F.faults folder.old) (F.faults folder.new) (result ≡ TempFile.Fault) }
-    ensures called { F.told folder.old → CallsOn (F.token folder.old) temp.now (IsOnName temp.now) IsTidy (λ root. TempLeft (F.token folder.old) temp.now (F.opens folder.new) result) (F.history folder.old) (F.history folder.new) }
-    ensures named { F.told folder.old → TempNamed temp.now (F.opens folder.new) result (now (F.history folder.new)) }
-    ensures skipped { F.told folder.old → result ≡ TempFile.Skipped → is_folder (now (F.history folder.old)) temp.now ≡ false → has_parent (now (F.history folder.old)) temp.now ≡ true →
-        TouchedByOther (F.token folder.old) (UsesFile temp.now) (since (F.history folder.old) (F.history folder.new)) }
-    ensures alone { F.told folder.old → IsLone (F.token folder.old) (since (F.history folder.old) (F.history folder.new)) →
-        TempAlone (F.token folder.old) temp.now (F.opens folder.new) result (now (F.history folder.old)) (now (F.history folder.new)) }
+    ensures goes { (F.view folder.old).told → GoesOn (F.view folder.old) (F.view folder.new) }
+    ensures opens { TempOpens result (F.view folder.old) (F.view folder.new) }
+    ensures frame { FolderTurns (result ≡ TempFile.Fault) (F.view folder.old) (F.view folder.new) }
+    ensures called { (F.view folder.old).told → CallsOn temp.now (IsOnName temp.now) IsTidy (λ root. TempLeft temp.now result (F.view folder.new)) (F.view folder.old) (F.view folder.new) }
+    ensures named { (F.view folder.old).told → TempNamed temp.now result (F.view folder.new) }
+    ensures skipped { (F.view folder.old).told → result ≡ TempFile.Skipped → is_folder (state (F.view folder.old)) temp.now ≡ false → has_parent (state (F.view folder.old)) temp.now ≡ true →
+        TouchedByOther (F.view folder.old).token (UsesFile temp.now) (moved (F.view folder.old) (F.view folder.new)) }
+    ensures alone { (F.view folder.old).told → IsLone (F.view folder.old).token (moved (F.view folder.old) (F.view folder.new)) →
+        TempAlone temp.now result (state (F.view folder.old)) (F.view folder.new) }
 {
     match take_away(folder, temp) {
         Taken::Away => make_file(folder, temp),
@@ -85,17 +78,15 @@ fn replace_file<F: Folder>(folder: &mut F, temp: &Path) -> TempFile
 
 // Makes the temporary file anew, also where one of a dead run with this token stands.
 pub(crate) fn create_temp<F: Folder>(folder: &mut F, temp: &Path) -> TempFile
-    ensures told { F.told folder.old → F.told folder.new }
-    ensures goes { F.told folder.old → GoesOn (F.history folder.old) (F.history folder.new) }
-    ensures token { F.token folder.new ≡ F.token folder.old }
-    ensures opens { TempOpens result (F.opens folder.old) (F.opens folder.new) }
-    ensures faults { Faults (F.faults folder.old) (F.faults folder.new) (result ≡ TempFile.Fault) }
-    ensures called { F.told folder.old → CallsOn (F.token folder.old) temp.now (IsOnName temp.now) IsTidy (λ root. TempLeft (F.token folder.old) temp.now (F.opens folder.new) result) (F.history folder.old) (F.history folder.new) }
-    ensures named { F.told folder.old → TempNamed temp.now (F.opens folder.new) result (now (F.history folder.new)) }
-    ensures skipped { F.told folder.old → result ≡ TempFile.Skipped → is_folder (now (F.history folder.old)) temp.now ≡ false → has_parent (now (F.history folder.old)) temp.now ≡ true →
-        TouchedByOther (F.token folder.old) (UsesFile temp.now) (since (F.history folder.old) (F.history folder.new)) }
-    ensures alone { F.told folder.old → IsLone (F.token folder.old) (since (F.history folder.old) (F.history folder.new)) →
-        TempAlone (F.token folder.old) temp.now (F.opens folder.new) result (now (F.history folder.old)) (now (F.history folder.new)) }
+    ensures goes { (F.view folder.old).told → GoesOn (F.view folder.old) (F.view folder.new) }
+    ensures opens { TempOpens result (F.view folder.old) (F.view folder.new) }
+    ensures frame { FolderTurns (result ≡ TempFile.Fault) (F.view folder.old) (F.view folder.new) }
+    ensures called { (F.view folder.old).told → CallsOn temp.now (IsOnName temp.now) IsTidy (λ root. TempLeft temp.now result (F.view folder.new)) (F.view folder.old) (F.view folder.new) }
+    ensures named { (F.view folder.old).told → TempNamed temp.now result (F.view folder.new) }
+    ensures skipped { (F.view folder.old).told → result ≡ TempFile.Skipped → is_folder (state (F.view folder.old)) temp.now ≡ false → has_parent (state (F.view folder.old)) temp.now ≡ true →
+        TouchedByOther (F.view folder.old).token (UsesFile temp.now) (moved (F.view folder.old) (F.view folder.new)) }
+    ensures alone { (F.view folder.old).told → IsLone (F.view folder.old).token (moved (F.view folder.old) (F.view folder.new)) →
+        TempAlone temp.now result (state (F.view folder.old)) (F.view folder.new) }
 {
     match folder.create(temp) {
         Created::Made(number) => TempFile::File(number),
@@ -108,12 +99,9 @@ pub(crate) fn create_temp<F: Folder>(folder: &mut F, temp: &Path) -> TempFile
 
 // One attempt to take the temporary name away.
 pub(crate) fn abandon<F: Folder>(folder: &mut F, temp: &Path)
-    ensures told { F.told folder.old → F.told folder.new }
-    ensures goes { F.told folder.old → GoesOn (F.history folder.old) (F.history folder.new) }
-    ensures token { F.token folder.new ≡ F.token folder.old }
-    ensures opens { F.opens folder.new ≡ F.opens folder.old }
-    ensures faults { Faults (F.faults folder.old) (F.faults folder.new) (⊥) }
-    ensures called { F.told folder.old → CallsOn (F.token folder.old) temp.now (IsOnName temp.now) (λ root. Anywhere) (λ root. Anywhere) (F.history folder.old) (F.history folder.new) }
+    ensures goes { (F.view folder.old).told → GoesOn (F.view folder.old) (F.view folder.new) }
+    ensures frame { FolderKeeps (F.view folder.old) (F.view folder.new) }
+    ensures called { (F.view folder.old).told → CallsOn temp.now (IsOnName temp.now) (λ root. Anywhere) (λ root. Anywhere) (F.view folder.old) (F.view folder.new) }
 {
     let _ = take_away(folder, temp);
 }

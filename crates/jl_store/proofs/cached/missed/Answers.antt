@@ -1,18 +1,23 @@
-use Rattle.std.proofs.Common.{◌≡◌, ◌∙◌, ℕ, ◌-◌, List, ap, refl, sym, subst}
+use Rattle.std.proofs.Common.{◌≡◌, ◌∙◌, ℕ, ◌-◌, List, [], ap, refl, sym, subst, append-nil}
 use Rattle.jl_streams.specs.Moments.{moment_of, moments_after}
-use Rattle.jl_folder.specs.State.{now, since}
+use Rattle.jl_folder.specs.Views.{state, moved}
 use Rattle.jl_value.specs.Form.{tree_of}
 use Rattle.jl_value.specs.Library.{outcome_of}
 use Rattle.jl_value.specs.Key.{key_of}
-use Rattle.jl_store.specs.Keeping.{HasEntry, HasPutAll, entry_in, texts}
-use Rattle.jl_store.specs.Next.{asked, entry_asked}
-use Rattle.jl_store.specs.Done.{PartDone}
+use Rattle.jl_store.specs.Asked.{asked}
+use Rattle.jl_store.specs.Calling.{IsAnswering}
+use Rattle.jl_store.specs.declared.cached.Cached.TheVariants.{Error, NoMemory}
+use Rattle.jl_store.specs.Keeping.{IsMakingEntry, PutsEntry, HasEntry, HasPutAll, entry_in, texts}
+use Rattle.jl_store.specs.Next.{entry_asked}
+use Rattle.jl_store.specs.Done.{OfKeeping, PartDone}
 use Rattle.jl_store.specs.Parts.{HasFunction}
 use Rattle.jl_store.proofs.Answering.{within_value}
 use Rattle.jl_store.proofs.Lawfully.{lawful_none}
 use Rattle.jl_store.proofs.Causing.{warns_none}
-use Rattle.jl_store.proofs.LoneCalls.{computed_leaves, error_leaves, memory_leaves}
-use Rattle.jl_store.proofs.DoneLemmas.{nothing_told, computed_done}
+use Rattle.jl_store.proofs.LoneCalls.{computed_leaves, error_leaves, memory_leaves, computed_clock}
+use Rattle.jl_store.proofs.DoneLemmas.{computed_done}
+use Rattle.jl_store.proofs.Orders.{order_none}
+use Rattle.jl_store.proofs.Putting.{puts_none, computed_puts}
 use Rattle.jl_store.proofs.cached.missed.Goals as goal
 
 pub computed-requires-clause-keepable : goal.computed-requires-clause-keepable
@@ -32,65 +37,104 @@ pub returns-in-Done-Value-clause-lawful : goal.returns-in-Done-Value-clause-lawf
 returns-in-Done-Value-clause-lawful g c = λ told. c.computed.ensures.lawful told g.L.Library.answer (sym (c.in-Done-Value.ensures.answer c.args.code.now c.requires.defined) ∙ ap outcome_of c.in-Done-Value.field-0-is)
 
 pub returns-in-Done-Error-clause-lawful : goal.returns-in-Done-Error-clause-lawful
-returns-in-Done-Error-clause-lawful g c = λ told. lawful_none _ _ _ (g.F.Folder.history c.args.folder.now)
+returns-in-Done-Error-clause-lawful g c = λ told. lawful_none _ _ _ (g.F.Folder.view c.args.folder.now)
 
 pub returns-in-NoMemory-clause-lawful : goal.returns-in-NoMemory-clause-lawful
-returns-in-NoMemory-clause-lawful g c = λ told. lawful_none _ _ _ (g.F.Folder.history c.args.folder.now)
+returns-in-NoMemory-clause-lawful g c = λ told. lawful_none _ _ _ (g.F.Folder.view c.args.folder.now)
 
 pub returns-in-Done-Value-clause-warns : goal.returns-in-Done-Value-clause-warns
 returns-in-Done-Value-clause-warns g c = c.computed.ensures.warns
 
 pub returns-in-Done-Error-clause-warns : goal.returns-in-Done-Error-clause-warns
 returns-in-Done-Error-clause-warns g c = λ n.
-    let folder = g.F.Folder in
     let a = asked c.args.memory.now c.args.name.now c.args.code.now n c.args.args.now in
-    let d = c.args.folder.now in
-    warns_none a (HasFunction a) c.args.warnings.now.items c.args.warnings.now.items (folder.told d) (folder.faults d) (folder.faults d) (folder.history d) (folder.history d) refl
+    let v = g.F.Folder.view c.args.folder.now in
+    warns_none a (HasFunction a) c.args.warnings.now.items c.args.warnings.now.items v v refl
 
 pub returns-in-NoMemory-clause-warns : goal.returns-in-NoMemory-clause-warns
 returns-in-NoMemory-clause-warns g c = λ n.
-    let folder = g.F.Folder in
     let a = asked c.args.memory.now c.args.name.now c.args.code.now n c.args.args.now in
-    let d = c.args.folder.now in
-    warns_none a (HasFunction a) c.args.warnings.now.items c.args.warnings.now.items (folder.told d) (folder.faults d) (folder.faults d) (folder.history d) (folder.history d) refl
+    let v = g.F.Folder.view c.args.folder.now in
+    warns_none a (HasFunction a) c.args.warnings.now.items c.args.warnings.now.items v v refl
 
 pub returns-in-Done-Value-clause-alone : goal.returns-in-Done-Value-clause-alone
 returns-in-Done-Value-clause-alone g c = λ told n lone ready rose stands.
-    let memory = c.args.memory.now in
-    let a = asked memory c.args.name.now c.args.code.now n c.args.args.now in
-    let e = entry_in memory c.args.name.now (key_of c.args.args.now) in
-    let folder = g.F.Folder in
-    let host = g.H.Host in
-    let s = now (folder.history c.args.folder.now) in
-    let t = now (folder.history c.computed.new.folder) in
+    let a = asked c.args.memory.now c.args.name.now c.args.code.now n c.args.args.now in
+    let e = entry_in c.args.memory.now c.args.name.now (key_of c.args.args.now) in
+    let host = g.H.Host.view c.args.host.now in
+    let s = state (g.F.Folder.view c.args.folder.now) in
+    let t = state (g.F.Folder.view c.computed.new.folder) in
     let v = c.in-Done-Value.value in
     let duration = c.saturating_sub.result in
     let moment = c.now-after.result in
-    computed_leaves a s t (host.told c.args.host.now) (host.moments c.args.host.now) c.computed.result v duration moment c.computed.ensures.computed stands
+    computed_leaves a s t host c.computed.result v duration moment c.computed.ensures.computed stands
     (λ is. subst (λ (u : List ℕ). HasEntry e u (texts c.args.code.now c.args.args.now (tree_of v) duration moment) s t) c.requires.token (c.computed.ensures.alone told lone ready rose is))
     (λ tells.
-    let first : c.now-before.result ≡ moment_of (host.moments c.args.host.now) = c.now-before.ensures.moment tells in
-    let second : c.now-after.result ≡ moment_of (moments_after (host.moments c.args.host.now)) = c.now-after.ensures.moment (c.now-before.ensures.told tells) ∙ ap moment_of (c.now-before.ensures.moments tells) in
+    let first : c.now-before.result ≡ moment_of host.moments = c.now-before.ensures.moment tells in
+    let second : c.now-after.result ≡ moment_of (moments_after host.moments) = c.now-after.ensures.moment (c.now-before.ensures.frame.told tells) ∙ ap moment_of (c.now-before.ensures.moments tells) in
     (second, c.saturating_sub.ensures ∙ (λ i. second i - first i)))
 
 pub returns-in-Done-Error-clause-alone : goal.returns-in-Done-Error-clause-alone
 returns-in-Done-Error-clause-alone g c = λ told n lone ready rose stands.
-    error_leaves (asked c.args.memory.now c.args.name.now c.args.code.now n c.args.args.now) (now (g.F.Folder.history c.args.folder.now)) (g.H.Host.told c.args.host.now) (g.H.Host.moments c.args.host.now) c.in-Done-Error.error stands
+    error_leaves (asked c.args.memory.now c.args.name.now c.args.code.now n c.args.args.now) (state (g.F.Folder.view c.args.folder.now)) (g.H.Host.view c.args.host.now) c.in-Done-Error.error stands
 
 pub returns-in-NoMemory-clause-alone : goal.returns-in-NoMemory-clause-alone
 returns-in-NoMemory-clause-alone g c = λ told n lone ready rose stands.
-    let s = now (g.F.Folder.history c.args.folder.now) in
-    memory_leaves (asked c.args.memory.now c.args.name.now c.args.code.now n c.args.args.now) s s (g.H.Host.told c.args.host.now) (g.H.Host.moments c.args.host.now)
+    let s = state (g.F.Folder.view c.args.folder.now) in
+    memory_leaves (asked c.args.memory.now c.args.name.now c.args.code.now n c.args.args.now) s s (g.H.Host.view c.args.host.now)
 
 pub returns-in-Done-Value-clause-done : goal.returns-in-Done-Value-clause-done
 returns-in-Done-Value-clause-done g c = λ told n.
-    let folder = g.F.Folder in
     let a = asked c.args.memory.now c.args.name.now c.args.code.now n c.args.args.now in
-    let moves = since (folder.history c.args.folder.now) (folder.history c.computed.new.folder) in
+    let moves = moved (g.F.Folder.view c.args.folder.now) (g.F.Folder.view c.computed.new.folder) in
     let ws = c.args.warnings.now.items in
     let ws' = c.computed.new.warnings.items in
     computed_done a moves c.computed.result c.in-Done-Value.value ws ws' c.computed.ensures.computed
-    (λ is. subst (λ (u : List ℕ). PartDone (HasPutAll (entry_asked a) u moves) ws ws') c.requires.token (c.computed.ensures.done told is))
+    (λ is. subst (λ (u : List ℕ). PartDone OfKeeping (HasPutAll (entry_asked a) u moves) ws ws') c.requires.token (c.computed.ensures.done told is))
 
 pub returns-in-Done-Error-clause-done : goal.returns-in-Done-Error-clause-done
-returns-in-Done-Error-clause-done g c = λ told n. nothing_told _ c.args.warnings.now.items c.args.warnings.now.items refl tt
+returns-in-Done-Error-clause-done g c = λ told n. ([], sym (append-nil c.args.warnings.now.items), refl)
+
+pub returns-in-Done-Value-clause-clock : goal.returns-in-Done-Value-clause-clock
+returns-in-Done-Value-clause-clock g c = λ tells.
+    computed_clock c.computed.result c.in-Done-Value.value (g.H.Host.view c.args.host.now) (g.H.Host.view c.now-after.new.self) c.computed.ensures.computed
+    (c.now-after.ensures.moments (c.now-before.ensures.frame.told tells) ∙ ap moments_after (c.now-before.ensures.moments tells))
+
+pub returns-in-Done-Error-clause-clock : goal.returns-in-Done-Error-clause-clock
+returns-in-Done-Error-clause-clock g c = λ tells. c.now-after.ensures.moments (c.now-before.ensures.frame.told tells) ∙ ap moments_after (c.now-before.ensures.moments tells)
+
+pub returns-in-Done-Value-clause-puts : goal.returns-in-Done-Value-clause-puts
+returns-in-Done-Value-clause-puts g c = λ told n.
+    let a = asked c.args.memory.now c.args.name.now c.args.code.now n c.args.args.now in
+    let host = g.H.Host.view c.args.host.now in
+    computed_puts c.computed.result a host c.in-Done-Value.value c.saturating_sub.result c.now-after.result (g.F.Folder.view c.args.folder.now) (g.F.Folder.view c.computed.new.folder) c.computed.ensures.computed (c.computed.ensures.puts told)
+    (λ tells.
+    let first : c.now-before.result ≡ moment_of host.moments = c.now-before.ensures.moment tells in
+    let second : c.now-after.result ≡ moment_of (moments_after host.moments) = c.now-after.ensures.moment (c.now-before.ensures.frame.told tells) ∙ ap moment_of (c.now-before.ensures.moments tells) in
+    (second, c.saturating_sub.ensures ∙ (λ i. second i - first i)))
+
+pub returns-in-Done-Error-clause-puts : goal.returns-in-Done-Error-clause-puts
+returns-in-Done-Error-clause-puts g c = λ told n.
+    let a = asked c.args.memory.now c.args.name.now c.args.code.now n c.args.args.now in
+    let v = g.F.Folder.view c.args.folder.now in
+    let r = Error c.in-Done-Error.error in
+    puts_none r a (g.H.Host.view c.args.host.now) (PutsEntry (entry_asked a)) (IsAnswering r (entry_asked a) v.token) v tt (λ tells. tt)
+
+pub returns-in-NoMemory-clause-puts : goal.returns-in-NoMemory-clause-puts
+returns-in-NoMemory-clause-puts g c = λ told n.
+    let a = asked c.args.memory.now c.args.name.now c.args.code.now n c.args.args.now in
+    let v = g.F.Folder.view c.args.folder.now in
+    puts_none NoMemory a (g.H.Host.view c.args.host.now) (PutsEntry (entry_asked a)) (IsAnswering NoMemory (entry_asked a) v.token) v tt (λ tells. tt)
+
+pub returns-in-Done-Value-clause-order : goal.returns-in-Done-Value-clause-order
+returns-in-Done-Value-clause-order g c = λ told. c.computed.ensures.order told
+
+pub returns-in-Done-Error-clause-order : goal.returns-in-Done-Error-clause-order
+returns-in-Done-Error-clause-order g c = λ told.
+    let e = entry_in c.args.memory.now c.args.name.now (key_of c.args.args.now) in
+    order_none (IsMakingEntry e) e (g.F.Folder.view c.args.folder.now)
+
+pub returns-in-NoMemory-clause-order : goal.returns-in-NoMemory-clause-order
+returns-in-NoMemory-clause-order g c = λ told.
+    let e = entry_in c.args.memory.now c.args.name.now (key_of c.args.args.now) in
+    order_none (IsMakingEntry e) e (g.F.Folder.view c.args.folder.now)

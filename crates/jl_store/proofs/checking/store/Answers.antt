@@ -1,21 +1,20 @@
 use Rattle.std.proofs.Common.{◌∙◌, sym}
 use Rattle.jl_clear.proofs.Folders.{temp_no_folder, final_no_folder}
-use Rattle.jl_store.proofs.SkipCauses.{check_skipped, check_fault}
+use Rattle.jl_folder.proofs.Frames.{answers_as}
+use Rattle.jl_store.proofs.SkipCauses.{check_skipped, check_fault, fault_check}
 use Rattle.jl_store.proofs.CodeAlone.{done_published}
 use Rattle.jl_store.proofs.checking.store.Goals as goal
 
 pub returns-clause-stores : goal.returns-clause-stores
 returns-clause-stores g c =
     let e = c.publish-published.ensures in
+    let r = c.publish-published.result in
     record {
-      tells = e.told;
-      same_token = e.token;
-      same_opens = e.opens;
-      later = e.faults.later;
-      failed = λ is. e.faults.failed (check_fault c.publish-published.result c.args.done c.requires.done (sym c.as_check.ensures ∙ is));
+      frame = answers_as (g.F.Folder.view c.args.folder.now) (g.F.Folder.view c.publish-published.new.folder) e.frame
+          (λ is. check_fault r c.args.done c.requires.done (sym c.as_check.ensures ∙ is)) (λ is. c.as_check.ensures ∙ fault_check r c.args.done is);
       goes = e.goes;
       called = λ t root x fun temp final whole. (e.called t root x temp final whole).call;
-      ends = λ t done. e.done t (done_published c.publish-published.result c.args.done c.as_check.result c.as_check.ensures done);
+      ends = λ t done. e.done t (done_published r c.args.done c.as_check.result c.as_check.ensures done);
     }
 
 -- in a tidy state no folder has the file's names

@@ -1,5 +1,5 @@
 use Rattle.std.proofs.Common.{◌≡◌, sym, ◌∙◌, subst}
-use Rattle.jl_folder.specs.State.{now}
+use Rattle.jl_folder.specs.Views.{state}
 use Rattle.jl_entry.specs.Moments.{access_text}
 use Rattle.jl_entry.specs.declared.names.EntryFile.TheVariants.{Access}
 use Rattle.jl_protocol.specs.Whole.{IsWhole}
@@ -17,27 +17,23 @@ keep_file-requires-clause-whole g c =
 pub returns-in-Ok-clause-called : goal.returns-in-Ok-clause-called
 returns-in-Ok-clause-called g c t =
     let e = entry_in c.args.memory.now c.args.name.now c.args.key.now.0 in
-    let token = g.F.Folder.token c.args.folder.now in
-    let h0 = g.F.Folder.history c.args.folder.now in
-    let h1 = g.F.Folder.history c.keep_file.new.folder in
+    let old = g.F.Folder.view c.args.folder.now in
+    let new = g.F.Folder.view c.keep_file.new.folder in
     let same : c.as_slice.result.now ≡ access_text c.args.moment = c.as_slice.ensures ∙ c.in-Ok.ensures.1 in
     let whole = access_whole e.module_name e.function_name e.key c.in-Ok.bytes c.args.moment c.in-Ok.ensures in
     let whole' = subst (IsWhole (file_of e Access)) (sym c.as_slice.ensures) whole in
-    file_from e token Access h0 h1 (access_text c.args.moment) (IsReadyFor e token Access) (IsReadyToTouch e) c.keep_file.result
+    file_from e Access old new (access_text c.args.moment) (IsReadyFor e old.token Access) (IsReadyToTouch e) c.keep_file.result
     (λ is ready. c.keep_file.ensures.tidy t whole' is ready)
-    (subst (λ b. KeepsFile e token Access b (IsReadyFor e token Access) h0 h1 c.keep_file.result) same (c.keep_file.ensures.called t whole'))
+    (subst (λ b. KeepsFile e Access b (IsReadyFor e old.token Access) c.keep_file.result old new) same (c.keep_file.ensures.called t whole'))
 
 pub returns-in-Ok-clause-alone : goal.returns-in-Ok-clause-alone
 returns-in-Ok-clause-alone g c t is lone =
     let e = entry_in c.args.memory.now c.args.name.now c.args.key.now.0 in
-    let token = g.F.Folder.token c.args.folder.now in
-    let h0 = g.F.Folder.history c.args.folder.now in
-    let h1 = g.F.Folder.history c.keep_file.new.folder in
+    let old = g.F.Folder.view c.args.folder.now in
     let same : c.as_slice.result.now ≡ access_text c.args.moment = c.as_slice.ensures ∙ c.in-Ok.ensures.1 in
-    subst (λ b. IsPublished (last_of e Access) (temp_of e token Access) b (now h0) (now h1)) same (c.keep_file.ensures.alone t is lone)
+    subst (λ b. IsPublished (last_of e Access) (temp_of e old.token Access) b (state old) (state (g.F.Folder.view c.keep_file.new.folder))) same (c.keep_file.ensures.alone t is lone)
 
 pub returns-in-Err-clause-called : goal.returns-in-Err-clause-called
 returns-in-Err-clause-called g c t =
     let e = entry_in c.args.memory.now c.args.name.now c.args.key.now.0 in
-    let h0 = g.F.Folder.history c.args.folder.now in
-    nothing_filed e (g.F.Folder.token c.args.folder.now) Access h0 h0 (access_text c.args.moment) (IsReadyToTouch e)
+    nothing_filed e Access (access_text c.args.moment) (IsReadyToTouch e) (g.F.Folder.view c.args.folder.now)
