@@ -4,5 +4,7 @@ pub mod MeasureLemmas
 pub mod Naming
 pub mod OrderLemmas
 pub mod ReduceLemmas
-pub mod TellLemmas
+pub mod SeenLemmas
+pub mod Silence
+pub mod SumLemmas
 pub mod WalkLemmas

@@ -1,38 +1,47 @@
 -- What reading and reducing promise.
-use Rattle.std.proofs.Common.{◌≡◌, ◌⊎◌, inl, inr, ⊎_elim, ℕ, ◌+◌, ◌≤◌, List, [], ◌∷◌, ◌++◌, take, drop, length-take, refl, sym, ap, subst, ◌∙◌, arith, Contains}
+use Rattle.std.proofs.Common.{◌≡◌, ◌⊎◌, inl, inr, ⊎_elim, ℕ, ◌+◌, List, [], ◌∷◌, ◌++◌, take, drop, length-take, refl, sym, ap, subst, ◌∙◌, arith, Contains}
+use Rattle.std.specs.Prelude.{⊤}
 use Rattle.std.proofs.lemmas.List.{take-append-drop}
 use Rattle.std.proofs.lemmas.List.Sorted.{Contains-permutation, IsPermutation-sym}
 use Rattle.std.specs.List.Sorted.{IsPermutation}
 use Rattle.std.proofs.lemmas.List.Elements.{Contains-append_cases, Contains-append_left}
 use Rattle.jl_text.specs.Paths.{PathView, path_of}
-use Rattle.jl_text.specs.Counts.{Faults, Rose}
-use Rattle.jl_folder.specs.State.{State, Trace, History, Opens, IsState, IsHistory, now, since}
+use Rattle.jl_folder.specs.State.{IsState}
+use Rattle.jl_folder.specs.Views.{FolderView, FolderAnswers, state, moved}
 use Rattle.jl_folder.specs.Calls.{Waits}
-use Rattle.jl_folder.proofs.StateKept.{IsState-run}
+use Rattle.jl_folder.proofs.Frames.{answers_as}
 use Rattle.jl_entry.specs.Names.{IsBelow, below, IsEntryFolder}
-use Rattle.jl_rely.specs.Claims.{Anywhere}
+use Rattle.jl_rely.specs.Claims.{Anywhere, AnyMove, Moves}
 use Rattle.jl_rely.specs.Steps.{IsLone}
-use Rattle.jl_rely.proofs.Composed.{goes_waits}
-use Rattle.jl_rely.proofs.Alone.{lone_parts, waits_alone}
+use Rattle.jl_rely.proofs.Composed.{goes_waits, called_for, called_keeps}
+use Rattle.jl_rely.proofs.Alone.{lone_parts}
+use Rattle.jl_rely.proofs.Moving.{moves_waits, moves_as, moves_called}
+use Rattle.jl_rely.proofs.Seen.{sooner}
 use Rattle.jl_quota.specs.declared.limits.Limits.{Limits}
-use Rattle.jl_protocol.specs.Tidy.{IsTidy}
-use Rattle.jl_clear.specs.Doing.{Does}
-use Rattle.jl_clear.proofs.DoingLemmas.{later_rose, does_then, does_as, does_waits, goes_does}
-use Rattle.jl_clear.specs.Taking.{IsTaking, IsTakenAway}
+use Rattle.jl_protocol.specs.Whole.{Answers}
+use Rattle.jl_protocol.specs.Proper.{IsProper, IsLawful}
+use Rattle.jl_protocol.specs.Tidy.{IsSound}
+use Rattle.jl_protocol.proofs.Kills.{sound_carried}
+use Rattle.jl_clear.specs.declared.removing.Clear.{Clear}
+use Rattle.jl_clear.specs.declared.removing.Clear.TheVariants.{Cleared, Fault}
+use Rattle.jl_clear.specs.Taking.{IsTaking}
 use Rattle.jl_clear.specs.Clearing.{Clears}
-use Rattle.jl_clear.proofs.Parts.{clears_none, clears_as, clears_then}
-use Rattle.jl_clear.proofs.Listings.{clears_waits}
-use Rattle.jl_clear.proofs.Removals.{taking_as}
-use Rattle.jl_clear.proofs.Thinning.{taken_away}
+use Rattle.jl_clear.proofs.Paths.{below_more}
+use Rattle.jl_clear.proofs.Parts.{clears_none, clears_as, clears_wider, clears_then}
+use Rattle.jl_clear.proofs.Removals.{taking_as, taking_proper, taking_lawful}
+use Rattle.jl_clear.proofs.Claims.{claims}
 use Rattle.jl_evict.specs.declared.item.Item.{Item}
-use Rattle.jl_evict.specs.Items.{IsItemPath, AreItems}
+use Rattle.jl_evict.specs.declared.walk.Walk.{Walk}
+use Rattle.jl_evict.specs.declared.walk.Walk.TheVariants as walk
+use Rattle.jl_evict.specs.Items.{IsItemPath, AreItems, AreSeen, WereItems}
 use Rattle.jl_evict.specs.Walks.{Adds}
 use Rattle.jl_evict.specs.declared.reducing.Reduced.{Reduced}
 use Rattle.jl_evict.specs.declared.reducing.Reduced.TheVariants as reduced
-use Rattle.jl_evict.specs.Reducing.{ArePaths, IsOf, IsOfEntry, Chosen, IsReport, Reduces, ReportsOf, Reports, EvictsOf, Evicts}
-use Rattle.jl_evict.proofs.FoundLemmas.{found_as, only_among}
+use Rattle.jl_evict.specs.Reducing.{ArePaths, IsOf, IsOfEntry, Chosen, clear_of, TakesFrom, EvictsOf, Evicts, Reduces}
+use Rattle.jl_evict.proofs.FoundLemmas.{only_among}
 use Rattle.jl_evict.proofs.Naming.{item_parts}
-use Rattle.jl_evict.proofs.TellLemmas.{silent_waits}
+use Rattle.jl_evict.proofs.SeenLemmas.{seen_as, found_alone, are_lasting}
+use Rattle.jl_evict.proofs.Silence.{silent_waits, still}
 
 -- ---- reading
 
@@ -40,15 +49,9 @@ all_below : (parts : PathView) → IsBelow [] parts
 unfolding IsBelow
 all_below parts = (parts, refl)
 
-pub state_now : (h : History) (opens : Opens) → IsHistory h opens → IsState (now h)
-state_now h opens is = IsState-run h.start h.trace is.start is.trace
-
-module _ {D : Type 0} (token : D → List ℕ) (told : D → Type 0) (history : D → History) (opens : D → Opens) (faults : D → ℕ) (root : PathView) (Done Failed : Type 0) (before after : List Item) (old new : D) (a : Adds token told history opens faults root Anywhere (IsBelow []) Done Failed before after old new) where
-  pub read_waits : told old → Waits (token old) (history old) (history new)
-  read_waits t = silent_waits (token old) (history old) (history new) (a.tells.does.moves t)
-
-  pub read_faults : Faults (faults old) (faults new) Failed
-  read_faults = record { later = a.tells.does.later; failed = a.tells.failed }
+module _ (root : PathView) (r : Walk) (before after : List Item) (old new : FolderView) (a : Adds root ⊤ (IsBelow []) r before after old new) where
+  pub read_waits : old.told → Waits old new
+  read_waits t = silent_waits old new (a.moves t)
 
   all_added : before ≡ [] → after ≡ a.added
   all_added none = a.are ∙ ap (λ (xs : List Item). xs ++ a.added) none
@@ -56,10 +59,13 @@ module _ {D : Type 0} (token : D → List ℕ) (told : D → Type 0) (history : 
   pub read_paths : before ≡ [] → ArePaths after
   read_paths none = subst ArePaths (sym (all_added none)) a.paths
 
-  pub read_alone : before ≡ [] → told old → Done → IsLone (token old) (since (history old) (history new)) → IsState (now (history old)) → AreItems root (now (history old)) after
-  read_alone none t done lone state =
-      subst (λ (xs : List Item). AreItems root (now (history old)) xs) (sym (all_added none))
-      (found_as root (IsBelow []) (λ parts. Unit {0}) (now (history old)) a.added (λ parts form of. tt) (λ parts form there of. all_below parts) (a.tells.alone t done lone state tt))
+  pub read_seen : before ≡ [] → old.told → r ≡ walk.Done → IsState (state old) → WereItems root after (state old) (moved old new)
+  read_seen none t done ok =
+      subst (λ (xs : List Item). WereItems root xs (state old) (moved old new)) (sym (all_added none))
+      (seen_as root (state old) (moved old new) (IsBelow []) (λ parts. ⊤) a.added (λ parts form of. tt) (λ parts form each of. all_below parts) (a.found t done ok tt))
+
+  pub read_alone : before ≡ [] → old.told → r ≡ walk.Done → IsLone old.token (moved old new) → IsState (state old) → AreItems root (state old) after
+  read_alone none t done lone ok = found_alone root (λ parts. ⊤) after (state old) (moved old new) (still old new (a.moves t) lone) (read_seen none t done ok)
 
 -- ---- the items' folders
 
@@ -83,19 +89,20 @@ chosen_more root items i item grown p (x, among, of) =
 
 -- ---- taking them away
 
-module _ {D : Type 0} (token : D → List ℕ) (told : D → Type 0) (history : D → History) (opens : D → Opens) (faults : D → ℕ) (root : PathView) (items : List Item) where
-  pub chosen_start : (d : D) → Clears token told history opens faults root Anywhere (Chosen root items) (Chosen root (take 0 items)) (Unit {0}) ⊥ d d
-  chosen_start d = clears_none token told history opens faults root Anywhere (Chosen root items) (Chosen root (take 0 items)) (Unit {0}) ⊥ d (λ f. f) (λ done p g. omega (arith, g.1.1, length-take 0 items))
+module _ (root : PathView) (items : List Item) where
+  pub chosen_start : (v : FolderView) → Clears root Anywhere (Chosen root items) (Chosen root (take 0 items)) (Chosen root (take 0 items)) Cleared v v
+  chosen_start v = clears_none root Anywhere (Chosen root items) (Chosen root (take 0 items)) (Chosen root (take 0 items)) Cleared v (λ f. cc) (λ done p w. omega (arith, w.1.1, length-take 0 items)) (λ done p g. omega (arith, g.1.1, length-take 0 items))
 
-  pub chosen_one : (item : Item) (Done Failed : Type 0) (old new : D) → Contains items item → Clears token told history opens faults root Anywhere (IsOf root item) (IsOf root item) Done Failed old new → Clears token told history opens faults root Anywhere (Chosen root items) (IsOf root item) Done Failed old new
-  chosen_one item Done Failed old new among b =
-      clears_as token told history opens faults root Anywhere Anywhere (IsOf root item) (Chosen root items) (IsOf root item) (IsOf root item) Done Done Failed Failed old new (λ s tidy pre. pre) (λ p may. (item, among, may)) (λ s tidy pre p g. inl g) (λ d. d) (λ f. f) b
+  pub chosen_one : (item : Item) (answer : Clear) (old new : FolderView) → Contains items item → Clears root Anywhere (IsOf root item) (IsOf root item) (IsOf root item) answer old new → Clears root Anywhere (Chosen root items) (IsOf root item) (IsOf root item) answer old new
+  chosen_one item answer old new among b = clears_wider root Anywhere (IsOf root item) (Chosen root items) (IsOf root item) (IsOf root item) answer old new (λ p may. (item, among, may)) b
 
-  pub chosen_next : (i : ℕ) (item : Item) (Done Failed : Type 0) (old mid new : D) → take (i + 1) items ≡ take i items ++ item ∷ [] → Contains items item → Done → Clears token told history opens faults root Anywhere (Chosen root items) (Chosen root (take i items)) (Unit {0}) ⊥ old mid → Clears token told history opens faults root Anywhere (IsOf root item) (IsOf root item) Done Failed mid new → Clears token told history opens faults root Anywhere (Chosen root items) (Chosen root (take (i + 1) items)) (Unit {0}) ⊥ old new
-  chosen_next i item Done Failed old mid new grown among done a b =
-      clears_as token told history opens faults root Anywhere Anywhere (Chosen root items) (Chosen root items) (λ p. Chosen root (take i items) p ⊎ IsOf root item p) (Chosen root (take (i + 1) items)) (Unit {0}) (Unit {0}) ⊥ ⊥ old new (λ s tidy pre. pre) (λ p may. may)
-      (λ s tidy pre p g. inl (chosen_more root items i item grown p g)) (λ d. d) (λ f. f)
-      (clears_then token told history opens faults root Anywhere Anywhere (Chosen root items) (Chosen root (take i items)) (IsOf root item) (Unit {0}) Done (Unit {0}) ⊥ Failed ⊥ old mid new (λ s t tidy tidy' pre th. tt) (λ d. d) (λ d. done) (λ f. absurd f) a (chosen_one item Done Failed mid new among b))
+  pub chosen_next : (i : ℕ) (item : Item) (old mid new : FolderView) → take (i + 1) items ≡ take i items ++ item ∷ [] → Contains items item → Clears root Anywhere (Chosen root items) (Chosen root (take i items)) (Chosen root (take i items)) Cleared old mid → Clears root Anywhere (IsOf root item) (IsOf root item) (IsOf root item) Cleared mid new → Clears root Anywhere (Chosen root items) (Chosen root (take (i + 1) items)) (Chosen root (take (i + 1) items)) Cleared old new
+  chosen_next i item old mid new grown among a b =
+      let Front : PathView → Type 0 = Chosen root (take i items) in
+      let More : PathView → Type 0 = Chosen root (take (i + 1) items) in
+      let Both : PathView → Type 0 = λ p. Front p ⊎ IsOf root item p in
+      clears_as root Anywhere Anywhere (Chosen root items) (Chosen root items) Both More Both More Cleared old new (λ s pre. pre) (λ p may. may) (λ p name w. chosen_more root items i item grown p w) (λ p g. chosen_more root items i item grown p g)
+      (clears_then root Anywhere (Chosen root items) Front (IsOf root item) Front (IsOf root item) Cleared old mid new a (chosen_one item Cleared mid new among b))
 
 -- those of items that were read are paths in any order
 pub paths_chosen : (read items : List Item) (k : ℕ) → IsPermutation read items → ArePaths read → ArePaths (take k items)
@@ -103,56 +110,77 @@ paths_chosen read items k same paths = paths_front items k (λ item among. paths
 
 -- ---- by the answer
 
-pub reports_of : (root : PathView) (limits : Limits) (moment : ℕ) (token : List ℕ) (moves : Trace) (r : Reduced) → ReportsOf root limits moment token moves r → Reports root limits moment token moves r
-reports_of root limits moment token moves (reduced.Report deleted bytes) of = of
-reports_of root limits moment token moves reduced.FolderFault of = tt
-reports_of root limits moment token moves reduced.NoMemory of = tt
+pub fault_of : (r : Reduced) → clear_of r ≡ Fault → r ≡ reduced.FolderFault
+fault_of (reduced.Report deleted bytes) f = cc
+fault_of reduced.FolderFault f = refl
+fault_of reduced.NoMemory f = cc
 
-pub evicts_of : (root : PathView) (limits : Limits) (moment : ℕ) (before after : State) (r : Reduced) → (IsReport r → EvictsOf root limits moment before after r) → Evicts root limits moment before after r
-evicts_of root limits moment before after (reduced.Report deleted bytes) of = of tt
-evicts_of root limits moment before after reduced.FolderFault of = tt
-evicts_of root limits moment before after reduced.NoMemory of = tt
+evicts_of : (root : PathView) (limits : Limits) (moment : ℕ) (r : Reduced) (old new : FolderView) → (clear_of r ≡ Cleared → EvictsOf root limits moment r old new) → Evicts root limits moment r old new
+evicts_of root limits moment (reduced.Report deleted bytes) old new of = of refl
+evicts_of root limits moment reduced.FolderFault old new of = tt
+evicts_of root limits moment reduced.NoMemory old new of = tt
+
+-- own moves in the entries' folders alone are proper and lawful in every state
+pub moves_reduce : (root : PathView) (limits : Limits) (moment : ℕ) (r : Reduced) (old new : FolderView) → Moves (IsTaking root (IsOfEntry root)) old new → Evicts root limits moment r old new → Reduces root limits moment r old new
+moves_reduce root limits moment r old new moves evicts = record {
+  called = moves_called (IsProper root) (IsProper root) (IsTaking root (IsOfEntry root)) Anywhere old new (taking_proper root (IsOfEntry root) old.token) moves;
+  lawful = λ (answers : Answers).
+      called_for (IsLawful root answers) (IsLawful root answers) (IsTaking root (IsOfEntry root)) AnyMove (λ s. IsSound root answers s × Anywhere s) (IsSound root answers) (λ s. IsSound root answers s × Anywhere s) (IsSound root answers) old new
+      (λ m is. tt) (λ s sound. (sound, tt)) (λ s both. both.0)
+      (called_keeps (IsLawful root answers) (IsLawful root answers) (IsTaking root (IsOfEntry root)) (IsSound root answers) Anywhere Anywhere old new (sound_carried root answers)
+      (moves_called (IsLawful root answers) (IsLawful root answers) (IsTaking root (IsOfEntry root)) Anywhere old new (taking_lawful root answers (IsOfEntry root) old.token) moves));
+  evicts = evicts;
+}
 
 -- ---- reading, and then taking away
 
-module _ {D : Type 0} (token : D → List ℕ) (told : D → Type 0) (history : D → History) (opens : D → Opens) (faults : D → ℕ) (root : PathView) where
-  module _ (old mid : D) (tells : told old → told mid) (same_token : token mid ≡ token old) (same_opens : opens mid ≡ opens old) (later : faults old ≤ faults mid) (waits : told old → Waits (token old) (history old) (history mid)) where
-    -- nothing was taken away
-    pub untaken : (Failed : Type 0) → (Failed → Rose (faults old) (faults mid)) → Clears token told history opens faults root Anywhere (IsOfEntry root) (IsOfEntry root) ⊥ Failed old mid
-    untaken Failed failed = clears_waits token told history opens faults root (IsOfEntry root) (IsOfEntry root) ⊥ Failed old mid tells same_token same_opens later failed waits (λ t done. absurd done)
+-- no path
+abbrev NoPath : PathView → Type 0
+NoPath p = ⊥
 
-    module _ (read : List Item) (limits : Limits) (moment : ℕ) (result : Reduced) (new : D) (b : Reduces token told history opens faults root read limits moment result mid new) where
-      does_both : (Of : PathView → Type 0) → ((p : PathView) → Chosen root (take b.count b.items) p → Of p) → Does token told history opens faults (IsTaking root Of) old new
-      does_both Of of =
-          does_then token told history opens faults (IsTaking root Of) old mid new (does_waits token told history opens faults (IsTaking root Of) old mid tells same_token same_opens later waits)
-          (does_as token told history opens faults (IsTaking root (Chosen root (take b.count b.items))) (IsTaking root Of) (taking_as root (Chosen root (take b.count b.items)) Of of) mid new b.clears.does)
+module _ (root : PathView) (old mid : FolderView) {Fails : Type 0} (frame : FolderAnswers Fails old mid) (waits : old.told → Waits old mid) where
+  -- nothing was taken away
+  pub untaken : (limits : Limits) (moment : ℕ) (r : Reduced) → (clear_of r ≡ Cleared → ⊥) → old.told → Reduces root limits moment r old mid
+  untaken limits moment r undone t = moves_reduce root limits moment r old mid (moves_waits (IsTaking root (IsOfEntry root)) old mid frame.token (waits t)) (evicts_of root limits moment r old mid (λ done. absurd (undone done)))
 
-      pub taken : Clears token told history opens faults root Anywhere (IsOfEntry root) (IsOfEntry root) ⊥ (result ≡ reduced.FolderFault) old new
-      taken = record {
-        does = does_both (IsOfEntry root) (chosen_entry root (take b.count b.items) b.paths);
-        failed = λ f. later_rose (faults old) (faults mid) (faults new) later (b.clears.failed f);
-        alone = λ t done. absurd done;
-      }
+  module _ (well : Fails → ⊥) (read : List Item) (limits : Limits) (moment : ℕ) (r : Reduced) (new : FolderView) (b : TakesFrom root read limits moment r mid new) where
+    abbrev Of : PathView → Type 0
+    Of = Chosen root (take b.count b.items)
 
-      pub taken_reports : told old → Reports root limits moment (token old) (since (history old) (history new)) result
-      taken_reports t =
-          reports_of root limits moment (token old) (since (history old) (history new)) result
-          (record { items = b.items; count = b.count; choice = b.choice; reports = b.reports; own = ((does_both (Chosen root (take b.count b.items)) (λ p is. is)).moves t).own })
+    waited : Clears root Anywhere Of NoPath NoPath Cleared old mid
+    waited = record {
+      frame = answers_as old mid frame (λ e. cc) (λ f. absurd (well f));
+      moves = λ t. moves_waits (IsTaking root Of) old mid frame.token (waits t);
+      went = λ t done ok p none. absurd none;
+      alone = λ t done ok lone pre p none. absurd none;
+    }
 
-      pub taken_alone : (told old → IsLone (token old) (since (history old) (history mid)) → AreItems root (now (history old)) read) → told old → IsLone (token old) (since (history old) (history new)) → IsTidy root (now (history old)) → Evicts root limits moment (now (history old)) (now (history new)) result
-      taken_alone are t lone tidy =
-          let parts = lone_parts (token old) (history old) (history mid) (history new) (goes_waits (token old) (history old) (history mid) (waits t)) (goes_does token told history opens faults (IsTaking root (Chosen root (take b.count b.items))) mid new b.clears.does (tells t)) lone in
-          let lone' = subst (λ (k : List ℕ). IsLone k (since (history mid) (history new))) (sym same_token) parts.1 in
-          let same = waits_alone (token old) (history old) (history mid) (waits t) parts.0 in
-          evicts_of root limits moment (now (history old)) (now (history new)) result
-          (λ done. record {
-            read = read;
-            are = are t parts.0;
-            items = b.items;
-            same = b.same;
-            count = b.count;
-            choice = b.choice;
-            reports = b.reports;
-            gone = subst (λ (s : State). IsTakenAway (Chosen root (take b.count b.items)) s (now (history new))) same
-                (taken_away (Chosen root (take b.count b.items)) (now (history mid)) (now (history new)) (b.clears.alone (tells t) done lone' (subst (IsTidy root) (sym same) tidy) tt));
-          })
+    both : Clears root Anywhere Of Of Of (clear_of r) old new
+    both =
+        clears_as root Anywhere Anywhere Of Of (λ p. NoPath p ⊎ Of p) Of (λ p. NoPath p ⊎ Of p) Of (clear_of r) old new (λ s pre. pre) (λ p may. may) (λ p name w. inr w) (λ p g. inr g)
+        (clears_then root Anywhere Of NoPath Of NoPath Of (clear_of r) old mid new waited b.clears)
+
+    pub taken_frame : FolderAnswers (r ≡ reduced.FolderFault) old new
+    taken_frame = answers_as old new both.frame (λ e. ap clear_of e) (fault_of r)
+
+    pub taken : (t : old.told) → IsState (state old) → WereItems root read (state old) (moved old mid) → (IsLone old.token (moved old mid) → AreItems root (state old) read) → Reduces root limits moment r old new
+    taken t ok seen are =
+        let first = goes_waits old mid frame.token (waits t) in
+        let second = (b.clears.moves (frame.told t)).went in
+        let all = claims root Of (clear_of r) old new both t ok (λ p of. let e = chosen_entry root (take b.count b.items) b.paths p of in below_more root e.0 p e.2) in
+        moves_reduce root limits moment r old new (moves_as (IsTaking root Of) (IsTaking root (IsOfEntry root)) (taking_as root Of (IsOfEntry root) (chosen_entry root (take b.count b.items) b.paths)) old new (both.moves t))
+        (evicts_of root limits moment r old new
+        (λ done. record {
+          read = read;
+          seen = sooner (AreSeen root (λ parts. ⊤) read) (are_lasting root (λ parts. ⊤) read) old mid new first second seen;
+          items = b.items;
+          same = b.same;
+          count = b.count;
+          choice = b.choice;
+          reports = b.reports;
+          own = (both.moves t).own;
+          went = both.went t done ok;
+          are = λ lone. are (lone_parts old mid new first second lone).0;
+          alone = λ lone. all.alone done lone;
+          tidy = λ lone tidy. all.tidy done lone tidy;
+        }))

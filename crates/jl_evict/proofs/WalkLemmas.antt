@@ -1,6 +1,6 @@
 -- Parts of a walk that add items, one after another.
-use Rattle.std.proofs.Common.{◌≡◌, ◌≢◌, ◌⊎◌, inl, inr, ⊎_elim, ℕ, zero, suc, ◌+◌, ◌<◌, ◌≤◌, List, [], ◌∷◌, ◌++◌, true, false, true≢false, None, Some, length, take, get_or, map, refl, sym, ap, subst, ◌∙◌, arith, append-nil, append_assoc, length-append, length-take, Contains}
-use Rattle.std.specs.Prelude.{IsTrue}
+use Rattle.std.proofs.Common.{◌≡◌, ◌≢◌, ◌⊎◌, inl, inr, ⊎_elim, ℕ, zero, suc, ◌+◌, ◌<◌, List, [], ◌∷◌, ◌++◌, true, false, true≢false, Option, None, Some, length, take, get_or, map, refl, sym, ap, subst, ◌∙◌, arith, append-nil, append_assoc, length-append, length-take, Contains}
+use Rattle.std.specs.Prelude.{IsTrue, ⊤}
 use Rattle.std.specs.Option.{option_map_or}
 use Rattle.std.specs.List.{IsDistinct, AllByRecursion}
 use Rattle.std.specs.Str.{bytes_eq}
@@ -10,23 +10,30 @@ use Rattle.std.proofs.lemmas.Slice.Eq.{bytes_eq-Decides}
 use Rattle.jl_text.specs.Paths.{PathView}
 use Rattle.jl_text.specs.Texts.{is_name}
 use Rattle.jl_folder.specs.declared.moves.Place.{Place as Thing}
+use Rattle.jl_folder.specs.declared.moves.Place.TheVariants.{Folder, File}
 use Rattle.jl_folder.specs.declared.listing.Name.{Name}
-use Rattle.jl_folder.specs.State.{State, Trace, History, Opens, IsState, AtSome, place_at, is_folder, is_folder_place, now, since}
-use Rattle.jl_folder.specs.Listing.{Stands, ListsNames}
+use Rattle.jl_folder.specs.State.{State, Trace, IsState, IsTrace, AtSome, AtEach, place_at, is_folder, is_folder_place, run}
+use Rattle.jl_folder.specs.Views.{FolderView, FolderAnswers, state, moved}
+use Rattle.jl_folder.specs.Listing.{ListsNames}
 use Rattle.jl_folder.specs.Calls.{Waits}
+use Rattle.jl_folder.proofs.Frames.{answers_next, answers_as, answers_none}
 use Rattle.jl_entry.specs.declared.names.EntryFile.TheVariants.{Access}
 use Rattle.jl_entry.specs.Names.{IsBelow, below, is_key, entry_part, IsNameOf, IsKeyName}
-use Rattle.jl_rely.specs.Claims.{Anywhere}
-use Rattle.jl_clear.proofs.Paths.{below_self, below_more, by_place, child_there, nothing_inside, no_folder}
-use Rattle.jl_clear.proofs.Listings.{at_each, at_some}
+use Rattle.jl_rely.specs.Claims.{Silent}
+use Rattle.jl_rely.proofs.Composed.{goes_waits}
+use Rattle.jl_rely.proofs.Moving.{moves_none, moves_then, moves_waits}
+use Rattle.jl_rely.proofs.Seen.{state_each, state_new, sooner, later, each_sooner, some_lasting}
+use Rattle.jl_clear.proofs.Paths.{below_self, below_more, nothing_inside, no_folder}
 use Rattle.jl_evict.specs.declared.item.Item.{Item}
+use Rattle.jl_evict.specs.declared.measure.Measure.{Measure}
+use Rattle.jl_evict.specs.declared.measure.Measure.TheVariants as measure
 use Rattle.jl_evict.specs.declared.walk.Walk.{Walk}
 use Rattle.jl_evict.specs.declared.walk.Walk.TheVariants as walk
 use Rattle.jl_evict.specs.declared.walk.Place.{Place}
-use Rattle.jl_evict.specs.Items.{IsEntryParts, IsItemPath, HasBytes, HasAccess, AreFound}
-use Rattle.jl_evict.specs.Walks.{Tells, Adds, Pushes, IsAt, IsSizedEntry, Listing, Under, AreDistinct, IsRootParts, IsModuleParts, IsFunctionParts}
-use Rattle.jl_evict.proofs.FoundLemmas.{none_among, only_among, first_among, found_none, found_then, found_as, found_one}
-use Rattle.jl_evict.proofs.TellLemmas.{tells_none, tells_as, tells_undone, tells_stop, tells_then, tells_waits}
+use Rattle.jl_evict.specs.Items.{IsEntryParts, IsItemPath, HadBytes, HadAccess, AreSeen}
+use Rattle.jl_evict.specs.Walks.{Measures, Adds, AddsOne, HasSized, HasListed, Pushes, IsAt, Under, AreDistinct, IsRootParts, IsModuleParts, IsFunctionParts}
+use Rattle.jl_evict.proofs.FoundLemmas.{none_among, only_among, first_among}
+use Rattle.jl_evict.proofs.SeenLemmas.{lists_lasting, bytes_lasting, access_lasting, are_lasting, seen_none, seen_then, seen_as, seen_one}
 
 -- ---- places
 
@@ -122,18 +129,42 @@ no_below root place s ok folder gone parts is = by_rest (unfolding_below place.n
     by_rest ([], e) = ap (is_folder s) (at [] e ∙ append-nil place.folder) ∙ gone
     by_rest (part ∷ rest, e) = no_folder s (below root parts) (ap (place_at s) (at (part ∷ rest) e) ∙ inside place.folder gone part rest)
 
--- a folder that stands
-thing_there : (s : State) (p : PathView) → is_folder s p ≡ true → (thing : Thing) × (place_at s p ≡ Some thing)
-thing_there s p is = by_place (place_at s p) ((thing : Thing) × (place_at s p ≡ Some thing)) (λ none. absurd (true≢false (sym is ∙ no_folder s p none))) (λ thing e. (thing, e))
+folder_there : (o : Option Thing) → option_map_or is_folder_place o false ≡ true → (thing : Thing) × (o ≡ Some thing) × (is_folder_place thing ≡ true)
+folder_there None e = absurd (true≢false (sym e))
+folder_there (Some Folder) e = (Folder, refl, refl)
+folder_there (Some (File n)) e = absurd (true≢false (sym e))
 
--- an entry that stands below a place is under one of the names there
-pub under_all : (root : PathView) (place : Place) (names : List Name) (s : State) → IsState s → place.folder ≡ below root place.name → Listing place.folder names s → (part : List ℕ) (rest parts : PathView) → part ≢ [] → parts ≡ place.name ++ part ∷ rest → is_folder s (below root parts) ≡ true → Under place.name names parts
-under_all root place names s ok folder lists part rest parts named e is =
+-- the first part on the way to a folder is one
+folder_on_way : (s : State) → IsState s → (folder : PathView) (part : List ℕ) (rest : PathView) → is_folder s (folder ++ part ∷ rest) ≡ true → is_folder s (folder ++ part ∷ []) ≡ true
+folder_on_way s ok folder part [] is = is
+folder_on_way s ok folder part (x ∷ xs) is = elim (is_folder s q) as (λ b. is_folder s q ≡ b → is_folder s q ≡ true) [
+  | true ↦ λ made. made
+  | false ↦ λ unmade.
+      let gone : place_at s (q ++ x ∷ xs) ≡ None = nothing_inside s ok q (omega (arith, length-append folder (part ∷ []))) unmade x xs in
+      absurd (true≢false (sym is ∙ ap (is_folder s) (sym (append_assoc folder (part ∷ []) (x ∷ xs))) ∙ no_folder s (q ++ x ∷ xs) gone))
+] refl
+  where
+    q : PathView
+    q = folder ++ part ∷ []
+
+-- an entry that stands below a place at each state of a listing is under one of the names there
+pub under_each : (root : PathView) (place : Place) (names : List Name) (s : State) (moves : Trace) → IsState s → IsTrace s moves → place.folder ≡ below root place.name → ListsNames place.folder names s moves → (part : List ℕ) (rest parts : PathView) → part ≢ [] → parts ≡ place.name ++ part ∷ rest → AtEach s moves (λ t. is_folder t (below root parts) ≡ true) → Under place.name names parts
+under_each root place names s moves ok may folder lists part rest parts named e each =
     let at : below root parts ≡ place.folder ++ part ∷ rest = ap (λ (q : PathView). below root q) e ∙ sym (append_assoc root place.name (part ∷ rest)) ∙ ap (λ (q : PathView). q ++ part ∷ rest) (sym folder) in
-    let thing = thing_there s (below root parts) is in
-    let child = child_there s ok place.folder part rest thing.0 (ap (place_at s) (sym at) ∙ thing.1) in
-    let name : Name = record { part = part; folder = is_folder_place child.0 } in
-    (name, lists.every name (at_each s (λ t. Stands t place.folder name) [] refl (record { place = child.0; place_is = child.1; kind = refl; named = named })), below_part place.name part rest parts e)
+    let name : Name = record { part = part; folder = true } in (
+      name,
+      lists.every name
+          (λ before later split.
+          let t = run s before in
+          let made = folder_on_way t (state_each s moves before later ok may split) place.folder part rest (ap (is_folder t) (sym at) ∙ each before later split) in
+          let thing = folder_there (place_at t (place.folder ++ part ∷ [])) made in
+          record { place = thing.0; place_is = thing.1; kind = thing.2; named = named }),
+      below_part place.name part rest parts e,
+    )
+
+-- what is no folder at some state isn't one at each
+pub some_not_each : (s : State) (moves : Trace) (p : PathView) → AtSome s moves (λ t. is_folder t p ≡ false) → AtEach s moves (λ t. is_folder t p ≡ true) → ⊥
+some_not_each s moves p (before, later, split, gone) each = true≢false (sym (each before later split) ∙ gone)
 
 pub under_below : (name : PathView) (names : List Name) (parts : PathView) → Under name names parts → IsBelow name parts
 under_below name names parts (n, among, is) = below_more name (n.part ∷ []) parts is
@@ -169,126 +200,233 @@ under_less : (name : PathView) (names : List Name) (i : ℕ) (item : Name) → t
 under_less name names i item grown parts (inl (n, among, of)) = (n, subst (λ (ns : List Name). Contains ns n) (sym grown) (Contains-append_left (take i names) (item ∷ []) n among), of)
 under_less name names i item grown parts (inr of) = (item, subst (λ (ns : List Name). Contains ns item) (sym grown) (Contains-append_right (take i names) (item ∷ []) item (first_among item [])), of)
 
+-- ---- an entry's item
+
+-- its access was found out
+pub one_pushed : (place : Place) (bytes access : ℕ) (r : Walk) (before after : List Item) (old new : FolderView) → Pushes r place bytes access before after → Measures (HadAccess (place.folder ++ entry_part Access ∷ [])) (measure.Number access) old new → AddsOne place (HasSized place bytes) r before after old new
+one_pushed place bytes access walk.Done before after old new pushes a =
+    let (item, are, path, bytes_is, access_is) = pushes in
+    record {
+      added = item ∷ [];
+      are = are;
+      paths = λ x among. ap (λ (y : Item). y.path) (only_among item x among) ∙ path;
+      frame = answers_as old new a.frame (λ e. cc) (λ e. cc);
+      moves = a.moves;
+      one = λ t done. (item, refl, (bytes_is, subst (λ (n : ℕ). HadAccess (place.folder ++ entry_part Access ∷ []) n (state old) (moved old new)) (sym access_is) (a.says t access refl)));
+    }
+one_pushed place bytes access walk.Fault before after old new pushes a = absurd pushes
+one_pushed place bytes access walk.NoMemory before after old new pushes a = record {
+  added = [];
+  are = pushes ∙ sym (append-nil before);
+  paths = λ x among. absurd (none_among x among);
+  frame = answers_as old new a.frame (λ e. cc) (λ e. cc);
+  moves = a.moves;
+  one = λ t done. cc;
+}
+
+-- a number was not found out
+pub one_failed : (place : Place) (Says : Item → State → Trace → Type 0) (Found : ℕ → State → Trace → Type 0) (m : Measure) (r : Walk) (items : List Item) (old new : FolderView) → (r ≡ walk.Fault → m ≡ measure.Fault) → (m ≡ measure.Fault → r ≡ walk.Fault) → (r ≡ walk.Done → ⊥) → Measures Found m old new → AddsOne place Says r items items old new
+one_failed place Says Found m r items old new to from undone a = record {
+  added = [];
+  are = sym (append-nil items);
+  paths = λ x among. absurd (none_among x among);
+  frame = answers_as old new a.frame to from;
+  moves = a.moves;
+  one = λ t done. absurd (undone done);
+}
+
+-- its bytes were found out before
+pub one_listed : (place : Place) (names : List Name) (bytes : ℕ) (r : Walk) (before after : List Item) (old mid new : FolderView) → Measures (HadBytes place.folder names) (measure.Number bytes) old mid → AddsOne place (HasSized place bytes) r before after mid new → AddsOne place (HasListed place names) r before after old new
+one_listed place names bytes r before after old mid new a b = record {
+  added = b.added;
+  are = b.are;
+  paths = b.paths;
+  frame = answers_next old mid new a.frame (λ e. cc) b.frame (λ e. e) (λ e. e);
+  moves = λ t. moves_then Silent old mid new (a.moves t) (b.moves (a.frame.told t));
+  one = λ t done.
+      let t' = a.frame.told t in
+      let first = (a.moves t).went in
+      let second = (b.moves t').went in
+      let one = b.one t' done in
+      let item = one.0 in
+      let only = one.1 in
+      let bytes_is = one.2.0 in
+      let access = one.2.1 in
+      let path = place.folder ++ entry_part Access ∷ [] in (
+        item,
+        only,
+        (
+          subst (λ (n : ℕ). HadBytes place.folder names n (state old) (moved old new)) (sym bytes_is) (sooner (HadBytes place.folder names bytes) (bytes_lasting place.folder names bytes) old mid new first second (a.says t bytes refl)),
+          later (HadAccess path item.access) (access_lasting path item.access) old mid new first second access,
+        ),
+      );
+}
+
 -- ---- parts that add items
 
-module _ {D : Type 0} (token : D → List ℕ) (told : D → Type 0) (history : D → History) (opens : D → Opens) (faults : D → ℕ) (root : PathView) where
+module _ (root : PathView) where
   -- nothing was added, as nothing is there
-  pub adds_none : (Pre : State → Type 0) (Of : PathView → Type 0) (Done Failed : Type 0) (items : List Item) (d : D) → (Failed → ⊥) → (Done → (s : State) → (parts : PathView) → IsEntryParts parts → Of parts → is_folder s (below root parts) ≡ true → ⊥) → Adds token told history opens faults root Pre Of Done Failed items items d d
-  adds_none Pre Of Done Failed items d faultless none = record {
+  pub adds_none : (Pre : Type 0) (Of : PathView → Type 0) (r : Walk) (items : List Item) (v : FolderView) → (r ≡ walk.Fault → ⊥) → (r ≡ walk.Done → (parts : PathView) → IsEntryParts parts → Of parts → ⊥) → Adds root Pre Of r items items v v
+  adds_none Pre Of r items v faultless none = record {
     added = [];
     are = sym (append-nil items);
     paths = λ item among. absurd (none_among item among);
-    tells = tells_none token told history opens faults Pre Done Failed (λ s. AreFound root Of s []) d faultless (λ done s state pre. found_none root Of s (none done s));
-  }
-
-  -- nothing was added, as it wasn't done
-  pub adds_failed : (Pre Pre' : State → Type 0) (Of : PathView → Type 0) (Done Done' Failed Failed' : Type 0) (Says : State → Type 0) (items : List Item) (old new : D) → (Done' → ⊥) → (Failed' → Failed) → Tells token told history opens faults Pre Done Failed Says old new → Adds token told history opens faults root Pre' Of Done' Failed' items items old new
-  adds_failed Pre Pre' Of Done Done' Failed Failed' Says items old new undone failed a = record {
-    added = [];
-    are = sym (append-nil items);
-    paths = λ item among. absurd (none_among item among);
-    tells = tells_undone token told history opens faults Pre Pre' Done Done' Failed Failed' Says (λ s. AreFound root Of s []) old new undone failed a;
-  }
-
-  -- nothing was added, as there is no such folder
-  pub adds_absent : (place : Place) (Done Failed : Type 0) (items : List Item) (old new : D) → place.folder ≡ below root place.name → (told old → told new) → token new ≡ token old → opens new ≡ opens old → faults old ≤ faults new → (Failed → ⊥) → (told old → Waits (token old) (history old) (history new)) → (told old → AtSome (now (history old)) (since (history old) (history new)) (λ s. is_folder s place.folder ≡ false)) → Adds token told history opens faults root Anywhere (IsBelow place.name) Done Failed items items old new
-  adds_absent place Done Failed items old new folder tells same_token same_opens later faultless waits gone = record {
-    added = [];
-    are = sym (append-nil items);
-    paths = λ item among. absurd (none_among item among);
-    tells = tells_waits token told history opens faults Anywhere Done Failed (λ s. AreFound root (IsBelow place.name) s []) old new tells same_token same_opens later (λ f. absurd (faultless f)) waits
-        (λ t done none state pre.
-        found_none root (IsBelow place.name) (now (history old))
-        (λ parts form of there.
-        true≢false (sym there ∙ no_below root place (now (history old)) state folder (at_some (now (history old)) (λ s. is_folder s place.folder ≡ false) (since (history old) (history new)) none (gone t)) parts of)));
-  }
-
-  -- of other parts, from a stronger beginning
-  pub adds_as : (Pre Pre' : State → Type 0) (Of Of' : PathView → Type 0) (Done Done' Failed Failed' : Type 0) (before after : List Item) (old new : D) → (Done' → Done) → (Failed' → Failed) → ((s : State) → IsState s → Pre' s → Pre s) → ((parts : PathView) → IsEntryParts parts → Of parts → Of' parts) → ((s : State) → IsState s → Pre' s → (parts : PathView) → IsEntryParts parts → is_folder s (below root parts) ≡ true → Of' parts → Of parts) → Adds token told history opens faults root Pre Of Done Failed before after old new → Adds token told history opens faults root Pre' Of' Done' Failed' before after old new
-  adds_as Pre Pre' Of Of' Done Done' Failed Failed' before after old new done failed pre there back a = record {
-    added = a.added;
-    are = a.are;
-    paths = a.paths;
-    tells = tells_as token told history opens faults Pre Pre' Done Done' Failed Failed' (λ s. AreFound root Of s a.added) (λ s. AreFound root Of' s a.added) old new done failed pre
-        (λ d s state p found. found_as root Of Of' s a.added there (back s state p) found) a.tells;
+    frame = answers_as v v (answers_none v) faultless (λ f. absurd f);
+    moves = λ t. moves_none Silent v;
+    found = λ t done ok pre. seen_none root (state v) (moved v v) Of (λ parts form of each. none done parts form of);
   }
 
   -- it wasn't done
-  pub adds_undone : (Pre Pre' : State → Type 0) (Of Of' : PathView → Type 0) (Done Done' Failed Failed' : Type 0) (before after : List Item) (old new : D) → (Done' → ⊥) → (Failed' → Failed) → Adds token told history opens faults root Pre Of Done Failed before after old new → Adds token told history opens faults root Pre' Of' Done' Failed' before after old new
-  adds_undone Pre Pre' Of Of' Done Done' Failed Failed' before after old new undone failed a = record {
+  pub adds_undone : (Pre Pre' : Type 0) (Of Of' : PathView → Type 0) (r : Walk) (before after : List Item) (old new : FolderView) → (r ≡ walk.Done → ⊥) → Adds root Pre Of r before after old new → Adds root Pre' Of' r before after old new
+  adds_undone Pre Pre' Of Of' r before after old new undone a = record {
     added = a.added;
     are = a.are;
     paths = a.paths;
-    tells = tells_undone token told history opens faults Pre Pre' Done Done' Failed Failed' (λ s. AreFound root Of s a.added) (λ s. AreFound root Of' s a.added) old new undone failed a.tells;
+    frame = a.frame;
+    moves = a.moves;
+    found = λ t done. absurd (undone done);
   }
 
-  -- something was found out first
-  pub adds_after : (Pre Pre1 Pre2 : State → Type 0) (Of : PathView → Type 0) (Done Done1 Failed F1 : Type 0) (Says1 : State → Type 0) (before after : List Item) (old mid new : D) → (Done → Done1) → ((s : State) → IsState s → Pre s → Pre1 s) → ((s : State) → IsState s → Pre s → Says1 s → Pre2 s) → Tells token told history opens faults Pre1 Done1 F1 Says1 old mid → Adds token told history opens faults root Pre2 Of Done Failed before after mid new → Adds token told history opens faults root Pre Of Done Failed before after old new
-  adds_after Pre Pre1 Pre2 Of Done Done1 Failed F1 Says1 before after old mid new done1 pre1 pre2 a b = record {
-    added = b.added;
-    are = b.are;
-    paths = b.paths;
-    tells = tells_then token told history opens faults Pre Pre1 Pre2 Done Done1 Done Failed F1 Failed (λ s. AreFound root Of s b.added) Says1 (λ s. AreFound root Of s b.added) old mid new done1 (λ d. d) (λ f. inr f) pre1 pre2 (λ d s state p one two. two) a b.tells;
+  -- of parts that are told otherwise
+  pub adds_as : (Pre : Type 0) (Of Of' : PathView → Type 0) (r : Walk) (before after : List Item) (old new : FolderView) → ((parts : PathView) → Of parts → Of' parts) → ((parts : PathView) → Of' parts → Of parts) → Adds root Pre Of r before after old new → Adds root Pre Of' r before after old new
+  adds_as Pre Of Of' r before after old new there back a = record {
+    added = a.added;
+    are = a.are;
+    paths = a.paths;
+    frame = a.frame;
+    moves = a.moves;
+    found = λ t done ok pre. seen_as root (state old) (moved old new) Of Of' a.added (λ parts form of. there parts of) (λ parts form each of. back parts of) (a.found t done ok pre);
   }
 
-  -- one after the other, of different entries
-  pub adds_then : (Pre : State → Type 0) (Of Of' : PathView → Type 0) (Done Done1 Done2 Failed F1 F2 : Type 0) (before between after : List Item) (old mid new : D) → (Done → Done1) → (Done → Done2) → (Failed → F1 ⊎ F2) → (Done → (s : State) → Pre s → (parts : PathView) → Of parts → Of' parts → ⊥) → Adds token told history opens faults root Pre Of Done1 F1 before between old mid → Adds token told history opens faults root Anywhere Of' Done2 F2 between after mid new → Adds token told history opens faults root Pre (λ parts. Of parts ⊎ Of' parts) Done Failed before after old new
-  adds_then Pre Of Of' Done Done1 Done2 Failed F1 F2 before between after old mid new done1 done2 failed apart a b = record {
-    added = a.added ++ b.added;
-    are = b.are ∙ ap (λ (xs : List Item). xs ++ b.added) a.are ∙ append_assoc before a.added b.added;
-    paths = λ item among. ⊎_elim (λ (l : Contains a.added item). a.paths item l) (λ (r : Contains b.added item). b.paths item r) (Contains-append_cases a.added b.added item among);
-    tells = tells_then token told history opens faults Pre Pre Anywhere Done Done1 Done2 Failed F1 F2 (λ s. AreFound root (λ parts. Of parts ⊎ Of' parts) s (a.added ++ b.added)) (λ s. AreFound root Of s a.added) (λ s. AreFound root Of' s b.added) old mid new done1 done2 failed
-        (λ s state p. p) (λ s state p one. tt) (λ d s state p one two. found_then root Of Of' s a.added b.added (apart d s p) one two) a.tells b.tells;
-  }
+  -- one after the other
+  module _ (Pre : Type 0) (Of Of' : PathView → Type 0) (r : Walk) (before between after : List Item) (old mid new : FolderView) (a : Adds root Pre Of walk.Done before between old mid) where
+    both_paths : (xs : List Item) → ((item : Item) → Contains xs item → IsItemPath item.path) → (item : Item) → Contains (a.added ++ xs) item → IsItemPath item.path
+    both_paths xs paths item among = ⊎_elim (λ (l : Contains a.added item). a.paths item l) (λ (x : Contains xs item). paths item x) (Contains-append_cases a.added xs item among)
 
-  -- an entry whose bytes are known
-  pub adds_sized : (place : Place) (bytes access : ℕ) (r : Walk) (Done1 F1 : Type 0) (before after : List Item) (old new : D) → IsAt root IsEntryParts place → Pushes r place bytes access before after → Done1 → (F1 → ⊥) → Tells token told history opens faults Anywhere Done1 F1 (λ s. HasAccess s (place.folder ++ entry_part Access ∷ []) access) old new → Adds token told history opens faults root (IsSizedEntry place.folder bytes) (IsBelow place.name) (r ≡ walk.Done) (r ≡ walk.Fault) before after old new
-  adds_sized place bytes access walk.Done Done1 F1 before after old new at pushes done faultless a =
-      let item = pushes.0 in
-      record {
-        added = item ∷ [];
-        are = pushes.1;
-        paths = λ x among. subst (λ (y : Item). IsItemPath y.path) (sym (only_among item x among)) (place.name, at.form, pushes.2);
-        tells = tells_as token told history opens faults Anywhere (IsSizedEntry place.folder bytes) Done1 (walk.Done ≡ walk.Done) F1 (walk.Done ≡ walk.Fault) (λ s. HasAccess s (place.folder ++ entry_part Access ∷ []) access) (λ s. AreFound root (IsBelow place.name) s (item ∷ [])) old new (λ d. done) (λ f. cc) (λ s state p. tt)
-            (λ d s state p has.
-            found_one root place.name s item at.form
+    pub adds_then : (Pre → (parts : PathView) → Of parts → Of' parts → ⊥) → Adds root ⊤ Of' r between after mid new → Adds root Pre (λ parts. Of parts ⊎ Of' parts) r before after old new
+    adds_then apart b = record {
+      added = a.added ++ b.added;
+      are = b.are ∙ ap (λ (xs : List Item). xs ++ b.added) a.are ∙ append_assoc before a.added b.added;
+      paths = both_paths b.added b.paths;
+      frame = answers_next old mid new a.frame (λ e. cc) b.frame (λ e. e) (λ e. e);
+      moves = λ t. moves_then Silent old mid new (a.moves t) (b.moves (a.frame.told t));
+      found = λ t done ok pre.
+          let t' = a.frame.told t in
+          let first = (a.moves t).went in
+          let second = (b.moves t').went in
+          seen_then root (state old) (moved old new) Of Of' a.added b.added (apart pre)
+          (sooner (AreSeen root Of a.added) (are_lasting root Of a.added) old mid new first second (a.found t refl ok pre))
+          (later (AreSeen root Of' b.added) (are_lasting root Of' b.added) old mid new first second (b.found t' done (state_new old mid first ok) tt));
+    }
+
+    -- and where the second wasn't done
+    pub adds_stop : (Pre' Pre'' : Type 0) (Of'' : PathView → Type 0) → (r ≡ walk.Done → ⊥) → Adds root Pre' Of' r between after mid new → Adds root Pre'' Of'' r before after old new
+    adds_stop Pre' Pre'' Of'' undone b = record {
+      added = a.added ++ b.added;
+      are = b.are ∙ ap (λ (xs : List Item). xs ++ b.added) a.are ∙ append_assoc before a.added b.added;
+      paths = both_paths b.added b.paths;
+      frame = answers_next old mid new a.frame (λ e. cc) b.frame (λ e. e) (λ e. e);
+      moves = λ t. moves_then Silent old mid new (a.moves t) (b.moves (a.frame.told t));
+      found = λ t done. absurd (undone done);
+    }
+
+  -- ---- names of a place
+
+  module _ (name : PathView) (names : List Name) where
+    -- no names yet
+    pub adds_start : (items : List Item) (v : FolderView) → Adds root (AreDistinct names) (Under name (take 0 names)) walk.Done items items v v
+    adds_start items v = adds_none (AreDistinct names) (Under name (take 0 names)) walk.Done items v (λ e. cc) (λ d parts form of. omega (arith, of.1.1, length-take 0 names))
+
+    -- one name more
+    pub adds_more : (i : ℕ) (item : Name) (part : List ℕ) (before between after : List Item) (old mid new : FolderView) → take (i + 1) names ≡ take i names ++ item ∷ [] → i < length names → item ≡ get_or names i item → part ≡ item.part → Adds root (AreDistinct names) (Under name (take i names)) walk.Done before between old mid → Adds root ⊤ (IsBelow (name ++ part ∷ [])) walk.Done between after mid new → Adds root (AreDistinct names) (Under name (take (i + 1) names)) walk.Done before after old new
+    adds_more i item part before between after old mid new grown lt is same a b =
+        let Before : PathView → Type 0 = Under name (take i names) in
+        let This : PathView → Type 0 = IsBelow (name ++ item.part ∷ []) in
+        adds_as (AreDistinct names) (λ parts. Before parts ⊎ This parts) (Under name (take (i + 1) names)) walk.Done before after old new (λ parts of. under_less name names i item grown parts of) (λ parts of. under_more name names i item grown parts of)
+        (adds_then (AreDistinct names) Before This walk.Done before between after old mid new a (λ dist parts of of'. not_before names i item of.0 dist lt is of.1 (part_below name of.0.part item.part parts of.2 of'))
+        (subst (λ (w : List ℕ). Adds root ⊤ (IsBelow (name ++ w ∷ [])) walk.Done between after mid new) same b))
+
+    -- all names
+    pub adds_every : (i : ℕ) (before after : List Item) (old new : FolderView) → take i names ≡ names → Adds root (AreDistinct names) (Under name (take i names)) walk.Done before after old new → Adds root (AreDistinct names) (Under name names) walk.Done before after old new
+    adds_every i before after old new all a = subst (λ (ns : List Name). Adds root (AreDistinct names) (Under name ns) walk.Done before after old new) all a
+
+  -- ---- a listing first
+
+  module _ (place : Place) (old mid : FolderView) {Fails : Type 0} (frame : FolderAnswers Fails old mid) (waits : old.told → Waits old mid) where
+    -- there are no names
+    pub adds_unlisted : (Pre : Type 0) (Of : PathView → Type 0) (r : Walk) (items : List Item) → (r ≡ walk.Fault → Fails) → (Fails → r ≡ walk.Fault) → (r ≡ walk.Done → ⊥) → Adds root Pre Of r items items old mid
+    adds_unlisted Pre Of r items to from undone = record {
+      added = [];
+      are = sym (append-nil items);
+      paths = λ item among. absurd (none_among item among);
+      frame = answers_as old mid frame to from;
+      moves = λ t. moves_waits Silent old mid frame.token (waits t);
+      found = λ t done. absurd (undone done);
+    }
+
+    -- there is no such folder
+    pub adds_absent : (items : List Item) → place.folder ≡ below root place.name → (Fails → ⊥) → (old.told → AtSome (state old) (moved old mid) (λ s. is_folder s place.folder ≡ false)) → Adds root ⊤ (IsBelow place.name) walk.Done items items old mid
+    adds_absent items folder well gone = record {
+      added = [];
+      are = sym (append-nil items);
+      paths = λ item among. absurd (none_among item among);
+      frame = answers_as old mid frame (λ e. cc) (λ f. absurd (well f));
+      moves = λ t. moves_waits Silent old mid frame.token (waits t);
+      found = λ t done ok pre.
+          seen_none root (state old) (moved old mid) (IsBelow place.name)
+          (λ parts form of each.
+          let (before, later, split, away) = gone t in
+          let goes = goes_waits old mid frame.token (waits t) in
+          true≢false (sym (each before later split) ∙ no_below root place (run (state old) before) (state_each (state old) (moved old mid) before later ok goes.lawful split) folder away parts of));
+    }
+
+    module _ (names : List Name) (r : Walk) (before after : List Item) (new : FolderView) (well : Fails → ⊥) (lists : old.told → ListsNames place.folder names (state old) (moved old mid)) where
+      -- the entry's own item
+      pub adds_one : IsAt root IsEntryParts place → AddsOne place (HasListed place names) r before after mid new → Adds root ⊤ (IsBelow place.name) r before after old new
+      adds_one at b = record {
+        added = b.added;
+        are = b.are;
+        paths = λ item among. (place.name, at.form, b.paths item among);
+        frame = answers_next old mid new frame well b.frame (λ e. e) (λ e. e);
+        moves = λ t. moves_then Silent old mid new (moves_waits Silent old mid frame.token (waits t)) (b.moves (frame.told t));
+        found = λ t done ok pre.
+            let first = goes_waits old mid frame.token (waits t) in
+            let second = (b.moves (frame.told t)).went in
+            let one = b.one (frame.told t) done in
+            let item = one.0 in
+            let only = one.1 in
+            let bytes = one.2.0 in
+            let access = one.2.1 in
+            let path = place.folder ++ entry_part Access ∷ [] in
+            let P : State → Type 0 = λ s. is_folder s place.folder ≡ true in
+            subst (λ (xs : List Item). AreSeen root (IsBelow place.name) xs (state old) (moved old new)) (sym only)
+            (seen_one root (state old) (moved old new) place.name item at.form
             (record {
-              stands = ap (is_folder s) (sym at.folder) ∙ p.0;
-              path = pushes.2;
-              bytes = subst (λ (n : ℕ). HasBytes s (below root place.name) n) (sym pushes.3) (subst (λ (q : PathView). HasBytes s q bytes) at.folder p.1);
-              access = subst (λ (n : ℕ). HasAccess s (below root place.name ++ entry_part Access ∷ []) n) (sym pushes.4) (subst (λ (q : PathView). HasAccess s (q ++ entry_part Access ∷ []) access) at.folder has);
+              stood = subst (λ (q : PathView). AtSome (state old) (moved old new) (λ s. is_folder s q ≡ true)) at.folder (sooner (λ s moves. AtSome s moves P) (some_lasting P) old mid new first second (lists t).folder);
+              path = b.paths item (subst (λ (xs : List Item). Contains xs item) (sym only) (first_among item []));
+              names = names;
+              listed = subst (λ (q : PathView). ListsNames q names (state old) (moved old new)) at.folder (sooner (λ s moves. ListsNames place.folder names s moves) (lists_lasting place.folder names) old mid new first second (lists t));
+              bytes = subst (λ (q : PathView). HadBytes q names item.bytes (state old) (moved old new)) at.folder (later (HadBytes place.folder names item.bytes) (bytes_lasting place.folder names item.bytes) old mid new first second bytes);
+              access = subst (λ (q : PathView). HadAccess (q ++ entry_part Access ∷ []) item.access (state old) (moved old new)) at.folder (later (HadAccess path item.access) (access_lasting path item.access) old mid new first second access);
             })
-            (only_entry place.name at.form) (below_self place.name))
-            a;
+            (only_entry place.name at.form) (below_self place.name));
       }
-  adds_sized place bytes access walk.Fault Done1 F1 before after old new at pushes done faultless a = absurd pushes
-  adds_sized place bytes access walk.NoMemory Done1 F1 before after old new at pushes done faultless a =
-      subst (λ (xs : List Item). Adds token told history opens faults root (IsSizedEntry place.folder bytes) (IsBelow place.name) (walk.NoMemory ≡ walk.Done) (walk.NoMemory ≡ walk.Fault) before xs old new) (sym pushes)
-      (adds_failed Anywhere (IsSizedEntry place.folder bytes) (IsBelow place.name) Done1 (walk.NoMemory ≡ walk.Done) F1 (walk.NoMemory ≡ walk.Fault) (λ s. HasAccess s (place.folder ++ entry_part Access ∷ []) access) before old new (λ d. cc) (λ f. cc) a)
 
-  -- a folder was listed first
-  pub adds_listed : (place : Place) (names : List Name) (Of : PathView → Type 0) (Done Failed : Type 0) (before after : List Item) (old mid new : D) → (told old → told mid) → token mid ≡ token old → opens mid ≡ opens old → faults old ≤ faults mid → (told old → Waits (token old) (history old) (history mid)) → (told old → ListsNames place.folder names (now (history old)) (since (history old) (history mid))) → Adds token told history opens faults root (Listing place.folder names) Of Done Failed before after mid new → Adds token told history opens faults root Anywhere Of Done Failed before after old new
-  adds_listed place names Of Done Failed before after old mid new tells same_token same_opens later waits lists b =
-      adds_after Anywhere Anywhere (Listing place.folder names) Of Done (Unit {0}) Failed ⊥ (Listing place.folder names) before after old mid new (λ d. tt) (λ s state p. tt) (λ s state p one. one)
-      (tells_waits token told history opens faults Anywhere (Unit {0}) ⊥ (Listing place.folder names) old mid tells same_token same_opens later (λ f. absurd f) waits
-      (λ t done none state pre. subst (λ (moves : Trace). ListsNames place.folder names (now (history old)) moves) none (lists t)))
-      b
-
-  -- one name more
-  pub adds_more : (name : PathView) (names : List Name) (i : ℕ) (item : Name) (part : List ℕ) (Done Failed : Type 0) (before between after : List Item) (old mid new : D) → take (i + 1) names ≡ take i names ++ item ∷ [] → i < length names → item ≡ get_or names i item → part ≡ item.part → Done → Adds token told history opens faults root (AreDistinct names) (Under name (take i names)) (Unit {0}) ⊥ before between old mid → Adds token told history opens faults root Anywhere (IsBelow (name ++ part ∷ [])) Done Failed between after mid new → Adds token told history opens faults root (AreDistinct names) (Under name (take (i + 1) names)) (Unit {0}) ⊥ before after old new
-  adds_more name names i item part Done Failed before between after old mid new grown lt is same done a b =
-      adds_as (AreDistinct names) (AreDistinct names) (λ parts. Under name (take i names) parts ⊎ IsBelow (name ++ item.part ∷ []) parts) (Under name (take (i + 1) names)) (Unit {0}) (Unit {0}) ⊥ ⊥ before after old new (λ d. d) (λ f. f) (λ s state p. p)
-      (λ parts form of. under_less name names i item grown parts of) (λ s state p parts form there of. under_more name names i item grown parts of)
-      (adds_then (AreDistinct names) (Under name (take i names)) (IsBelow (name ++ item.part ∷ [])) (Unit {0}) (Unit {0}) Done ⊥ ⊥ Failed before between after old mid new (λ d. d) (λ d. done) (λ f. absurd f)
-      (λ d s dist parts of of'. not_before names i item of.0 dist lt is of.1 (part_below name of.0.part item.part parts of.2 of'))
-      a
-      (subst (λ (w : List ℕ). Adds token told history opens faults root Anywhere (IsBelow (name ++ w ∷ [])) Done Failed between after mid new) same b))
-
-  -- a name was not added
-  pub adds_stop : (Pre Pre' : State → Type 0) (Of Of' Of'' : PathView → Type 0) (Done Done' Done'' Failed' Failed'' : Type 0) (before between after : List Item) (old mid new : D) → (Done'' → ⊥) → (Failed'' → Failed') → Adds token told history opens faults root Pre Of Done ⊥ before between old mid → Adds token told history opens faults root Pre' Of' Done' Failed' between after mid new → Adds token told history opens faults root Pre Of'' Done'' Failed'' before after old new
-  adds_stop Pre Pre' Of Of' Of'' Done Done' Done'' Failed' Failed'' before between after old mid new undone failed a b = record {
-    added = a.added ++ b.added;
-    are = b.are ∙ ap (λ (xs : List Item). xs ++ b.added) a.are ∙ append_assoc before a.added b.added;
-    paths = λ item among. ⊎_elim (λ (l : Contains a.added item). a.paths item l) (λ (r : Contains b.added item). b.paths item r) (Contains-append_cases a.added b.added item among);
-    tells = tells_stop token told history opens faults Pre Pre' Done Done' Done'' Failed' Failed'' (λ s. AreFound root Of s a.added) (λ s. AreFound root Of' s b.added) (λ s. AreFound root Of'' s (a.added ++ b.added)) old mid new undone failed a.tells b.tells;
-  }
+      -- the items below its names
+      pub adds_listed : place.folder ≡ below root place.name → ((parts : PathView) → IsEntryParts parts → IsBelow place.name parts → (part : List ℕ) × (rest : PathView) × (parts ≡ place.name ++ part ∷ rest) × (part ≢ [])) → Adds root (AreDistinct names) (Under place.name names) r before after mid new → Adds root ⊤ (IsBelow place.name) r before after old new
+      adds_listed folder inner b = record {
+        added = b.added;
+        are = b.are;
+        paths = b.paths;
+        frame = answers_next old mid new frame well b.frame (λ e. e) (λ e. e);
+        moves = λ t. moves_then Silent old mid new (moves_waits Silent old mid frame.token (waits t)) (b.moves (frame.told t));
+        found = λ t done ok pre.
+            let first = goes_waits old mid frame.token (waits t) in
+            let second = (b.moves (frame.told t)).went in
+            let seen = later (AreSeen root (Under place.name names) b.added) (are_lasting root (Under place.name names) b.added) old mid new first second (b.found (frame.told t) done (state_new old mid first ok) (lists t).once) in
+            seen_as root (state old) (moved old new) (Under place.name names) (IsBelow place.name) b.added (λ parts form of. under_below place.name names parts of)
+            (λ parts form each of.
+            let (part, rest, e, named) = inner parts form of in
+            under_each root place names (state old) (moved old mid) ok first.lawful folder (lists t) part rest parts named e (each_sooner (λ s. is_folder s (below root parts) ≡ true) old mid new first second each))
+            seen;
+      }

@@ -1,10 +1,12 @@
--- The items of a state.
-use Rattle.std.specs.Prelude.{◌≡◌, ◌≢◌, ◌⊎◌, ℕ, ◌-◌, ◌^◌, min, true, List, [], ◌∷◌, ◌++◌, Some, length, sum_by, Contains, IsTrue, ⊤}
+-- The items of a state, and those that were seen as others moved.
+use Rattle.std.specs.Prelude.{◌≡◌, ◌≢◌, ◌⊎◌, ℕ, ◌-◌, ◌^◌, min, true, false, List, [], ◌∷◌, ◌++◌, Some, length, sum_by, Contains, IsTrue, ⊤}
 use Rattle.std.specs.Option.{option_map_or}
 use Rattle.jl_text.specs.Paths.{PathView, text_of}
 use Rattle.jl_text.specs.Texts.{is_name}
 use Rattle.jl_folder.specs.declared.listing.Name.{Name}
-use Rattle.jl_folder.specs.State.{State, is_folder, bytes_at}
+use Rattle.jl_folder.specs.declared.moves.Node.{Node}
+use Rattle.jl_folder.specs.declared.moves.Place.TheVariants.{File}
+use Rattle.jl_folder.specs.State.{State, Trace, AtSome, AtEach, place_at, node_at, is_folder, is_file, bytes_at, run}
 use Rattle.jl_folder.specs.Listing.{ListsNames}
 use Rattle.jl_entry.specs.declared.names.EntryFile.TheVariants.{Access}
 use Rattle.jl_entry.specs.Moments.{IsAccess}
@@ -57,3 +59,57 @@ pub record AreFound (root : PathView) (Of : PathView → Type 0) (s : State) (it
 -- the items of a state: the entries' folders below the root, each once
 abbrev pub AreItems : (root : PathView) → State → List Item → Type 0
 AreItems root s items = AreFound root (λ parts. ⊤) s items
+
+-- ---- as others moved
+
+-- each name's file in the folder had such a size at some state
+abbrev pub HadSizes : PathView → List Name → List ℕ → State → Trace → Type 0
+HadSizes folder [] [] s moves = ⊤
+HadSizes folder [] (n ∷ ns) s moves = ⊥
+HadSizes folder (name ∷ names) [] s moves = ⊥
+HadSizes folder (name ∷ names) (n ∷ ns) s moves = AtSome s moves (λ t. size_at t (folder ++ name.part ∷ []) ≡ n) × HadSizes folder names ns s moves
+
+-- the sum of such sizes
+abbrev pub HadBytes : PathView → List Name → ℕ → State → Trace → Type 0
+HadBytes folder names n s moves = (sizes : List ℕ) × HadSizes folder names sizes s moves × (n ≡ held (sum_by (λ k. k) sizes))
+
+-- the path named a node, and at that state or a later one the node had these bytes
+pub record HadText (path : PathView) (bytes : List ℕ) (s : State) (moves : Trace) : Type 0 where
+  pub before : Trace
+  pub middle : Trace
+  pub later : Trace
+  pub split : moves ≡ before ++ (middle ++ later)
+  pub node : ℕ
+  pub named : place_at (run s before) path ≡ Some (File node)
+  pub view : Node
+  pub node_is : node_at (run s (before ++ middle)) node ≡ Some view
+  pub bytes_are : view.bytes ≡ bytes
+
+-- the moment that bytes are the text of, or 0
+abbrev pub IsAccessOf : List ℕ → ℕ → Type 0
+IsAccessOf bytes n = IsAccess bytes n ⊎ ((n ≡ 0) × ((m : ℕ) → IsAccess bytes m → ⊥))
+
+-- the moment in the text that the file had, or 0 where there was no such file or it had no such text
+abbrev pub HadAccess : PathView → ℕ → State → Trace → Type 0
+HadAccess path n s moves =
+    ((bytes : List ℕ) × HadText path bytes s moves × IsAccessOf bytes n) ⊎ (AtSome s moves (λ t. is_file t path ≡ false) × (n ≡ 0))
+
+-- The entry's folder stood, and the item tells what was seen of it:
+-- the sizes of the files that were listed, each as it was at some state, and the moment of the last access.
+pub record IsSeen (root parts : PathView) (item : Item) (s : State) (moves : Trace) : Type 0 where
+  pub stood : AtSome s moves (λ t. is_folder t (below root parts) ≡ true)
+  pub path : item.path ≡ text_of parts
+  pub names : List Name
+  pub listed : ListsNames (below root parts) names s moves
+  pub bytes : HadBytes (below root parts) names item.bytes s moves
+  pub access : HadAccess (below root parts ++ entry_part Access ∷ []) item.access s moves
+
+-- of the entries' folders below a root that are of this form each item's stood, and each that stood throughout has an item; no two items have one path
+pub record AreSeen (root : PathView) (Of : PathView → Type 0) (items : List Item) (s : State) (moves : Trace) : Type 0 where
+  pub each : (item : Item) → Contains items item → (parts : PathView) × IsEntryParts parts × Of parts × IsSeen root parts item s moves
+  pub every : (parts : PathView) → IsEntryParts parts → Of parts → AtEach s moves (λ t. is_folder t (below root parts) ≡ true) → (item : Item) × Contains items item × (item.path ≡ text_of parts)
+  pub once : Once items
+
+-- the same of all entries' folders
+abbrev pub WereItems : (root : PathView) → List Item → State → Trace → Type 0
+WereItems root items s moves = AreSeen root (λ parts. ⊤) items s moves

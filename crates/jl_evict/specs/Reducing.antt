@@ -2,12 +2,18 @@
 use Rattle.std.specs.Prelude.{◌≡◌, ℕ, List, Contains, length, take, ⊤}
 use Rattle.std.specs.List.Sorted.{IsPermutation, IsSorted}
 use Rattle.jl_text.specs.Paths.{PathView, path_of}
-use Rattle.jl_folder.specs.State.{State, Trace, History, Opens}
+use Rattle.jl_folder.specs.State.{State, Trace}
+use Rattle.jl_folder.specs.Views.{FolderView, state, moved}
 use Rattle.jl_entry.specs.Names.{IsBelow, below}
-use Rattle.jl_rely.specs.Steps.{OwnMoves}
-use Rattle.jl_rely.specs.Claims.{Anywhere}
+use Rattle.jl_rely.specs.Steps.{OwnMoves, IsLone}
+use Rattle.jl_rely.specs.Claims.{Called, Anywhere, AnyMove}
 use Rattle.jl_quota.specs.declared.limits.Limits.{Limits}
-use Rattle.jl_clear.specs.Taking.{IsTaking, IsTakenAway}
+use Rattle.jl_protocol.specs.Whole.{Answers}
+use Rattle.jl_protocol.specs.Proper.{IsProper, IsLawful}
+use Rattle.jl_protocol.specs.Tidy.{IsTidy, IsSound}
+use Rattle.jl_clear.specs.declared.removing.Clear.{Clear}
+use Rattle.jl_clear.specs.declared.removing.Clear.TheVariants as clear
+use Rattle.jl_clear.specs.Taking.{IsTaking, IsTakenAway, IsThinned, WentAway}
 use Rattle.jl_clear.specs.Clearing.{Clears}
 use Rattle.jl_evict.specs.declared.item.Item.{Item}
 use Rattle.jl_evict.specs.declared.reading.ItemsRead.{ItemsRead}
@@ -15,7 +21,7 @@ use Rattle.jl_evict.specs.declared.reading.ItemsRead.TheVariants as items_read
 use Rattle.jl_evict.specs.declared.reducing.Reduced.{Reduced}
 use Rattle.jl_evict.specs.declared.reducing.Reduced.TheVariants as reduced
 use Rattle.jl_evict.specs.Choosing.{item_cmp, bytes_of, IsShortest}
-use Rattle.jl_evict.specs.Items.{IsEntryParts, IsItemPath, held, AreItems}
+use Rattle.jl_evict.specs.Items.{IsEntryParts, IsItemPath, held, AreItems, WereItems}
 
 -- ---- reading
 
@@ -34,6 +40,12 @@ AreRead root s (items_read.Items items) = AreItems root s items.items
 AreRead root s items_read.FolderFault = ⊤
 AreRead root s items_read.NoMemory = ⊤
 
+-- they were seen so, as others moved
+abbrev pub WereRead : (root : PathView) → ItemsRead → State → Trace → Type 0
+WereRead root (items_read.Items items) s moves = WereItems root items.items s moves
+WereRead root items_read.FolderFault s moves = ⊤
+WereRead root items_read.NoMemory s moves = ⊤
+
 -- ---- taking away
 
 -- in the folder of some entry
@@ -48,10 +60,11 @@ IsOf root item p = IsBelow (below root (path_of item.path)) p
 abbrev pub Chosen : (root : PathView) → List Item → PathView → Type 0
 Chosen root items p = (item : Item) × Contains items item × IsOf root item p
 
-abbrev pub IsReport : Reduced → Type 0
-IsReport (reduced.Report deleted bytes) = ⊤
-IsReport reduced.FolderFault = ⊥
-IsReport reduced.NoMemory = ⊥
+-- what was chosen is cleared where it is reported
+abbrev pub clear_of : Reduced → Clear
+clear_of (reduced.Report deleted bytes) = clear.Cleared
+clear_of reduced.FolderFault = clear.Fault
+clear_of reduced.NoMemory = clear.NoMemory
 
 -- these are reported
 abbrev pub IsReportOf : List Item → Reduced → Type 0
@@ -65,40 +78,38 @@ pub record IsChoice (limits : Limits) (now : ℕ) (items : List Item) (count : �
   pub shortest : IsShortest limits now items count
 
 -- those of these items that are beyond the limits were chosen, and reported; these and no others were taken away
-pub record Reduces {D : Type 0} (token : D → List ℕ) (told : D → Type 0) (history : D → History) (opens : D → Opens) (faults : D → ℕ) (root : PathView) (read : List Item) (limits : Limits) (moment : ℕ) (result : Reduced) (old new : D) : Type 0 where
+pub record TakesFrom (root : PathView) (read : List Item) (limits : Limits) (moment : ℕ) (result : Reduced) (old new : FolderView) : Type 0 where
   pub items : List Item
   pub same : IsPermutation read items
   pub count : ℕ
   pub choice : IsChoice limits moment items count
   pub paths : ArePaths (take count items)
   pub reports : IsReportOf (take count items) result
-  pub clears : Clears token told history opens faults root Anywhere (Chosen root (take count items)) (Chosen root (take count items)) (IsReport result) (result ≡ reduced.FolderFault) old new
+  pub clears : Clears root Anywhere (Chosen root (take count items)) (Chosen root (take count items)) (Chosen root (take count items)) (clear_of result) old new
 
--- what is reported is a choice, and the own moves took away nothing but what was chosen
-pub record ReportsOf (root : PathView) (limits : Limits) (moment : ℕ) (token : List ℕ) (moves : Trace) (result : Reduced) : Type 0 where
-  pub items : List Item
-  pub count : ℕ
-  pub choice : IsChoice limits moment items count
-  pub reports : IsReportOf (take count items) result
-  pub own : OwnMoves token (IsTaking root (Chosen root (take count items))) moves
-
-abbrev pub Reports : (root : PathView) → Limits → ℕ → List ℕ → Trace → Reduced → Type 0
-Reports root limits moment token moves (reduced.Report deleted bytes) = ReportsOf root limits moment token moves (reduced.Report deleted bytes)
-Reports root limits moment token moves reduced.FolderFault = ⊤
-Reports root limits moment token moves reduced.NoMemory = ⊤
-
--- the choice is of the items of the state, and what was chosen is gone
-pub record EvictsOf (root : PathView) (limits : Limits) (moment : ℕ) (before after : State) (result : Reduced) : Type 0 where
+-- The choice is of items that were seen, and what is reported was chosen. Own moves took away nothing but what was chosen, and each name of the store there went away.
+-- Where no other moved, the items are those of the state, and what was chosen is thinned, and from a tidy state it is gone, and nothing else.
+pub record EvictsOf (root : PathView) (limits : Limits) (moment : ℕ) (result : Reduced) (old new : FolderView) : Type 0 where
   pub read : List Item
-  pub are : AreItems root before read
+  pub seen : WereItems root read (state old) (moved old new)
   pub items : List Item
   pub same : IsPermutation read items
   pub count : ℕ
   pub choice : IsChoice limits moment items count
   pub reports : IsReportOf (take count items) result
-  pub gone : IsTakenAway (Chosen root (take count items)) before after
+  pub own : OwnMoves old.token (IsTaking root (Chosen root (take count items))) (moved old new)
+  pub went : WentAway root (Chosen root (take count items)) old new
+  pub are : IsLone old.token (moved old new) → AreItems root (state old) read
+  pub alone : IsLone old.token (moved old new) → IsThinned root (Chosen root (take count items)) (state old) (state new)
+  pub tidy : IsLone old.token (moved old new) → IsTidy root (state old) → IsTakenAway (Chosen root (take count items)) (state old) (state new)
 
-abbrev pub Evicts : (root : PathView) → Limits → ℕ → State → State → Reduced → Type 0
-Evicts root limits moment before after (reduced.Report deleted bytes) = EvictsOf root limits moment before after (reduced.Report deleted bytes)
-Evicts root limits moment before after reduced.FolderFault = ⊤
-Evicts root limits moment before after reduced.NoMemory = ⊤
+abbrev pub Evicts : (root : PathView) → Limits → ℕ → Reduced → FolderView → FolderView → Type 0
+Evicts root limits moment (reduced.Report deleted bytes) old new = EvictsOf root limits moment (reduced.Report deleted bytes) old new
+Evicts root limits moment reduced.FolderFault old new = ⊤
+Evicts root limits moment reduced.NoMemory old new = ⊤
+
+-- proper in every state, whatever others do, and in the folders of entries alone; and what is reported was taken away
+pub record Reduces (root : PathView) (limits : Limits) (moment : ℕ) (result : Reduced) (old new : FolderView) : Type 0 where
+  pub called : Called (IsProper root) (IsProper root) (IsTaking root (IsOfEntry root)) Anywhere Anywhere old new
+  pub lawful : (answers : Answers) → Called (IsLawful root answers) (IsLawful root answers) AnyMove (IsSound root answers) (IsSound root answers) old new
+  pub evicts : Evicts root limits moment result old new

@@ -3,8 +3,8 @@ ghost use Rattle.std.specs.Prelude.{◌≡◌, ◌++◌, ◌∷◌, [], All, IsT
 ghost use Rattle.jl_text.specs.Paths.{is_part};
 ghost use Rattle.jl_entry.specs.Names.{entry_part};
 ghost use Rattle.jl_entry.specs.declared.names.EntryFile.{EntryFile};
-ghost use Rattle.jl_rely.specs.Claims.{Anywhere};
-ghost use Rattle.jl_evict.specs.Walks.{Tells, IsMeasured, IsMeasureFault, measure_of, IsAccessOf, Sized, Summed, Accessed};
+ghost use Rattle.jl_evict.specs.Items.{IsAccessOf, HadBytes, HadAccess};
+ghost use Rattle.jl_evict.specs.Walks.{Measures, measure_of, HadSize};
 
 use jl_entry::read_access;
 use jl_folder::{FileRead, Folder, Name, Path, SizeOf, read_file};
@@ -34,7 +34,7 @@ fn as_measure(size: SizeOf) -> Measure
 
 // How many bytes a path's file has; none if it names no file.
 fn file_size<F: Folder>(folder: &mut F, path: &Path) -> Measure
-    ensures { Tells F.token F.told F.history F.opens F.faults Anywhere (IsMeasured result) (IsMeasureFault result) (Sized path.now result) folder.old folder.new }
+    ensures { Measures (HadSize path.now) result (F.view folder.old) (F.view folder.new) }
 {
     let size = folder.size(path);
     as_measure(size)
@@ -42,7 +42,7 @@ fn file_size<F: Folder>(folder: &mut F, path: &Path) -> Measure
 
 fn name_size<F: Folder>(alloc: Global, folder: &mut F, entry: &Path, part: &str) -> Measure
     requires { IsTrue (is_part part.now) }
-    ensures { Tells F.token F.told F.history F.opens F.faults Anywhere (IsMeasured result) (IsMeasureFault result) (Sized (entry.now ++ part.now ∷ []) result) folder.old folder.new }
+    ensures { Measures (HadSize (entry.now ++ part.now ∷ [])) result (F.view folder.old) (F.view folder.new) }
 {
     match entry.join(alloc, part) {
         Ok(path) => file_size(folder, &path),
@@ -58,7 +58,7 @@ pub(crate) fn entry_bytes<F: Folder>(
     names: &[Name],
 ) -> Measure
     requires { All (λ n. IsTrue (is_part n.part)) names.now }
-    ensures { Tells F.token F.told F.history F.opens F.faults Anywhere (IsMeasured result) (IsMeasureFault result) (Summed entry.now names.now result) folder.old folder.new }
+    ensures { Measures (HadBytes entry.now names.now) result (F.view folder.old) (F.view folder.new) }
 {
     let mut sum: u64 = 0;
     for name in names {
@@ -81,7 +81,7 @@ fn access_in(bytes: &[u8]) -> u64
 }
 
 fn read_moment<F: Folder>(alloc: Global, folder: &mut F, path: &Path) -> Measure
-    ensures { Tells F.token F.told F.history F.opens F.faults Anywhere (IsMeasured result) (IsMeasureFault result) (Accessed path.now result) folder.old folder.new }
+    ensures { Measures (HadAccess path.now) result (F.view folder.old) (F.view folder.new) }
 {
     match read_file(alloc, folder, path, MOST_ACCESS) {
         FileRead::Bytes(bytes) => Measure::Number(access_in(bytes.as_slice())),
@@ -93,7 +93,7 @@ fn read_moment<F: Folder>(alloc: Global, folder: &mut F, path: &Path) -> Measure
 
 /// When an entry was last used; 0 where its file doesn't tell.
 pub(crate) fn entry_access<F: Folder>(alloc: Global, folder: &mut F, entry: &Path) -> Measure
-    ensures { Tells F.token F.told F.history F.opens F.faults Anywhere (IsMeasured result) (IsMeasureFault result) (Accessed (entry.now ++ entry_part EntryFile.Access ∷ []) result) folder.old folder.new }
+    ensures { Measures (HadAccess (entry.now ++ entry_part EntryFile.Access ∷ [])) result (F.view folder.old) (F.view folder.new) }
 {
     match entry.join(alloc, "last_access") {
         Ok(path) => read_moment(alloc, folder, &path),

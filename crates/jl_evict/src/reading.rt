@@ -1,11 +1,10 @@
 // Reading what a cache holds.
 ghost use Rattle.std.specs.Prelude.{◌≡◌, [], IfOk};
-ghost use Rattle.jl_text.specs.Counts.{Faults};
-ghost use Rattle.jl_folder.specs.State.{now, since};
+ghost use Rattle.jl_folder.specs.Views.{FolderAnswers, state, moved};
 ghost use Rattle.jl_folder.specs.Calls.{Waits};
 ghost use Rattle.jl_entry.specs.Names.{root_of};
 ghost use Rattle.jl_rely.specs.Steps.{IsLone};
-ghost use Rattle.jl_evict.specs.Reducing.{HavePaths, AreRead};
+ghost use Rattle.jl_evict.specs.Reducing.{HavePaths, AreRead, WereRead};
 ghost use Rattle.jl_evict.specs.Walks.{IsAt, IsRootParts};
 
 use crate::item::Item;
@@ -32,15 +31,13 @@ fn root_place(alloc: Global, location: &Path) -> Result<Place, AllocError>
 
 /// The items of a cache, in no order.
 pub fn items<F: Folder>(alloc: Global, folder: &mut F, location: &Path) -> ItemsRead
-    ensures told { F.told folder.old → F.told folder.new }
-    ensures token { F.token folder.new ≡ F.token folder.old }
-    ensures opens { F.opens folder.new ≡ F.opens folder.old }
-    ensures faults { Faults (F.faults folder.old) (F.faults folder.new) (result ≡ ItemsRead.FolderFault) }
-    ensures waits { F.told folder.old → Waits (F.token folder.old) (F.history folder.old) (F.history folder.new) }
+    ensures frame { FolderAnswers (result ≡ ItemsRead.FolderFault) (F.view folder.old) (F.view folder.new) }
+    ensures waits { (F.view folder.old).told → Waits (F.view folder.old) (F.view folder.new) }
     ensures paths { HavePaths result }
+    // Each stood at some state of the call, and what stands throughout is one of them.
+    ensures seen { (F.view folder.old).told → WereRead (root_of location.now) result (state (F.view folder.old)) (moved (F.view folder.old) (F.view folder.new)) }
     // Alone, they are those of the state.
-    ensures alone { F.told folder.old → IsLone (F.token folder.old) (since (F.history folder.old) (F.history folder.new)) →
-        AreRead (root_of location.now) (now (F.history folder.old)) result }
+    ensures alone { (F.view folder.old).told → IsLone (F.view folder.old).token (moved (F.view folder.old) (F.view folder.new)) → AreRead (root_of location.now) (state (F.view folder.old)) result }
 {
     let Ok(place) = root_place(alloc, location) else {
         return ItemsRead::NoMemory;

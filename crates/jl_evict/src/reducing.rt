@@ -1,20 +1,13 @@
 // Taking away what a cache holds beyond its limits.
 ghost use Rattle.std.specs.Prelude.{◌≡◌, ℕ, List, Contains, IfOk, IfSome, IsTrue};
 ghost use Rattle.jl_text.specs.Paths.{path_of, is_part};
-ghost use Rattle.jl_text.specs.Counts.{Faults};
-ghost use Rattle.jl_folder.specs.State.{now as latest, since};
+ghost use Rattle.jl_folder.specs.Views.{FolderAnswers};
 ghost use Rattle.jl_entry.specs.Names.{below, root_of};
-ghost use Rattle.jl_rely.specs.Steps.{IsLone};
-ghost use Rattle.jl_rely.specs.Claims.{Called, Anywhere};
-ghost use Rattle.jl_protocol.specs.Whole.{Answers};
-ghost use Rattle.jl_protocol.specs.Proper.{IsProper, IsLawful};
-ghost use Rattle.jl_protocol.specs.Tidy.{IsTidy, IsSound};
-ghost use Rattle.jl_clear.specs.Doing.{AnyMove};
-ghost use Rattle.jl_clear.specs.Taking.{IsTaking};
+ghost use Rattle.jl_rely.specs.Claims.{Anywhere};
 ghost use Rattle.jl_clear.specs.Clearing.{Clears};
 ghost use Rattle.jl_evict.specs.Choosing.{bytes_of};
 ghost use Rattle.jl_evict.specs.Items.{IsItemPath, held};
-ghost use Rattle.jl_evict.specs.Reducing.{ArePaths, IsOf, IsOfEntry, Chosen, IsReport, IsReportOf, Reduces, Reports, Evicts};
+ghost use Rattle.jl_evict.specs.Reducing.{ArePaths, IsOf, Chosen, clear_of, IsReportOf, TakesFrom, Reduces};
 
 use crate::choosing::choose;
 use crate::item::Item;
@@ -59,7 +52,7 @@ fn read_path(alloc: Global, item: &Item) -> Option<Path>
 // Takes away an item: the files of its entry, and the folder.
 fn clear_one<F: Folder>(alloc: Global, folder: &mut F, root: &Path, item: &Item) -> Clear
     requires { IsItemPath item.now.path }
-    ensures { Clears F.token F.told F.history F.opens F.faults root.now Anywhere (IsOf root.now item.now) (IsOf root.now item.now) (result ≡ Clear.Cleared) (result ≡ Clear.Fault) folder.old folder.new }
+    ensures { Clears root.now Anywhere (IsOf root.now item.now) (IsOf root.now item.now) (IsOf root.now item.now) result (F.view folder.old) (F.view folder.new) }
 {
     let Some(name) = read_path(alloc, item) else {
         return Clear::NoMemory;
@@ -72,7 +65,7 @@ fn clear_one<F: Folder>(alloc: Global, folder: &mut F, root: &Path, item: &Item)
 
 fn clear_chosen<F: Folder>(alloc: Global, folder: &mut F, root: &Path, chosen: &[Item]) -> Clear
     requires { ArePaths chosen.now }
-    ensures { Clears F.token F.told F.history F.opens F.faults root.now Anywhere (Chosen root.now chosen.now) (Chosen root.now chosen.now) (result ≡ Clear.Cleared) (result ≡ Clear.Fault) folder.old folder.new }
+    ensures { Clears root.now Anywhere (Chosen root.now chosen.now) (Chosen root.now chosen.now) (Chosen root.now chosen.now) result (F.view folder.old) (F.view folder.new) }
 {
     for item in chosen {
         match clear_one(alloc, folder, root, item) {
@@ -97,7 +90,7 @@ fn held_bytes(items: &[Item]) -> u64
 // Takes away the chosen items, and reports them.
 fn report<F: Folder>(alloc: Global, folder: &mut F, root: &Path, chosen: &[Item]) -> Reduced
     requires { ArePaths chosen.now }
-    ensures clears { Clears F.token F.told F.history F.opens F.faults root.now Anywhere (Chosen root.now chosen.now) (Chosen root.now chosen.now) (IsReport result) (result ≡ Reduced.FolderFault) folder.old folder.new }
+    ensures clears { Clears root.now Anywhere (Chosen root.now chosen.now) (Chosen root.now chosen.now) (Chosen root.now chosen.now) (clear_of result) (F.view folder.old) (F.view folder.new) }
     ensures reports { IsReportOf chosen.now result }
 {
     match clear_chosen(alloc, folder, root, chosen) {
@@ -120,7 +113,7 @@ fn reduce<F: Folder>(
     now: u64,
 ) -> Reduced
     requires { ArePaths items.items }
-    ensures { Reduces F.token F.told F.history F.opens F.faults root.now items.items limits.now now result folder.old folder.new }
+    ensures { TakesFrom root.now items.items limits.now now result (F.view folder.old) (F.view folder.new) }
 {
     let mut items = items;
     let count = choose(&mut items, limits, now);
@@ -135,21 +128,8 @@ pub fn reduce_size<F: Folder>(
     limits: &Limits,
     now: u64,
 ) -> Reduced
-    ensures told { F.told folder.old → F.told folder.new }
-    ensures token { F.token folder.new ≡ F.token folder.old }
-    ensures opens { F.opens folder.new ≡ F.opens folder.old }
-    ensures faults { Faults (F.faults folder.old) (F.faults folder.new) (result ≡ Reduced.FolderFault) }
-    // Proper in every state, whatever others do, and in the folders of entries alone.
-    ensures called { F.told folder.old → Called (IsProper (root_of location.now)) (IsProper (root_of location.now)) (F.token folder.old)
-        (IsTaking (root_of location.now) (IsOfEntry (root_of location.now)))
-        Anywhere Anywhere (F.history folder.old) (F.history folder.new) }
-    ensures lawful { F.told folder.old → (answer : Answers) → Called (IsLawful (root_of location.now) answer) (IsLawful (root_of location.now) answer) (F.token folder.old) AnyMove
-        (IsSound (root_of location.now) answer) (IsSound (root_of location.now) answer) (F.history folder.old) (F.history folder.new) }
-    // What is reported was chosen, and nothing else was taken away.
-    ensures reports { F.told folder.old → Reports (root_of location.now) limits.now now (F.token folder.old) (since (F.history folder.old) (F.history folder.new)) result }
-    // Alone, from a tidy state, the items are those of the state, and those that were chosen are gone, and nothing else.
-    ensures alone { F.told folder.old → IsLone (F.token folder.old) (since (F.history folder.old) (F.history folder.new)) → IsTidy (root_of location.now) (latest (F.history folder.old)) →
-        Evicts (root_of location.now) limits.now now (latest (F.history folder.old)) (latest (F.history folder.new)) result }
+    ensures frame { FolderAnswers (result ≡ Reduced.FolderFault) (F.view folder.old) (F.view folder.new) }
+    ensures reduces { (F.view folder.old).told → Reduces (root_of location.now) limits.now now result (F.view folder.old) (F.view folder.new) }
 {
     let Ok(path) = root(alloc, location) else {
         return Reduced::NoMemory;

@@ -1,10 +1,9 @@
 // A walk through the folders of a cache.
-ghost use Rattle.std.specs.Prelude.{◌≡◌, ◌++◌, ◌∷◌, [], All, IsTrue, IfOk};
+ghost use Rattle.std.specs.Prelude.{◌≡◌, ◌++◌, ◌∷◌, [], All, IsTrue, IfOk, ⊤};
 ghost use Rattle.jl_text.specs.Paths.{PathView, is_part};
 ghost use Rattle.jl_entry.specs.Names.{IsBelow};
-ghost use Rattle.jl_rely.specs.Claims.{Anywhere};
 ghost use Rattle.jl_evict.specs.Items.{IsEntryParts};
-ghost use Rattle.jl_evict.specs.Walks.{Adds, Pushes, IsAt, IsSizedEntry, Listing, Under, AreDistinct, IsRootParts, IsModuleParts, IsFunctionParts};
+ghost use Rattle.jl_evict.specs.Walks.{Adds, AddsOne, HasSized, HasListed, Pushes, IsAt, Under, AreDistinct, IsRootParts, IsModuleParts, IsFunctionParts};
 
 use crate::item::Item;
 use crate::measure::{Measure, entry_access, entry_bytes};
@@ -63,8 +62,7 @@ fn add_sized<F: Folder>(
     bytes: u64,
     items: &mut Vec<Item>,
 ) -> Walk
-    ensures { (root : PathView) → IsAt root IsEntryParts place.now →
-        Adds F.token F.told F.history F.opens F.faults root (IsSizedEntry place.now.folder bytes) (IsBelow place.now.name) (result ≡ Walk.Done) (result ≡ Walk.Fault) items.old.items items.new.items folder.old folder.new }
+    ensures { AddsOne place.now (HasSized place.now bytes) result items.old.items items.new.items (F.view folder.old) (F.view folder.new) }
 {
     match entry_access(alloc, folder, &place.folder) {
         Measure::Number(access) => push_item(alloc, place, bytes, access, items),
@@ -82,8 +80,7 @@ fn add_listed<F: Folder>(
     items: &mut Vec<Item>,
 ) -> Walk
     requires { All (λ n. IsTrue (is_part n.part)) names.now }
-    ensures { (root : PathView) → IsAt root IsEntryParts place.now →
-        Adds F.token F.told F.history F.opens F.faults root (Listing place.now.folder names.now) (IsBelow place.now.name) (result ≡ Walk.Done) (result ≡ Walk.Fault) items.old.items items.new.items folder.old folder.new }
+    ensures { AddsOne place.now (HasListed place.now names.now) result items.old.items items.new.items (F.view folder.old) (F.view folder.new) }
 {
     match entry_bytes(alloc, folder, &place.folder, names) {
         Measure::Number(bytes) => add_sized(alloc, folder, place, bytes, items),
@@ -95,7 +92,7 @@ fn add_listed<F: Folder>(
 // Adds the item of an entry, if its folder is there.
 fn add_entry<F: Folder>(alloc: Global, folder: &mut F, place: &Place, items: &mut Vec<Item>) -> Walk
     ensures { (root : PathView) → IsAt root IsEntryParts place.now →
-        Adds F.token F.told F.history F.opens F.faults root Anywhere (IsBelow place.now.name) (result ≡ Walk.Done) (result ≡ Walk.Fault) items.old.items items.new.items folder.old folder.new }
+        Adds root ⊤ (IsBelow place.now.name) result items.old.items items.new.items (F.view folder.old) (F.view folder.new) }
 {
     match folder.list(&place.folder) {
         Listed::Names(names) => add_listed(alloc, folder, place, names.as_slice(), items),
@@ -115,7 +112,7 @@ fn add_key<F: Folder>(
 ) -> Walk
     requires { IsTrue (is_part part.now) }
     ensures { (root : PathView) → IsAt root IsFunctionParts place.now →
-        Adds F.token F.told F.history F.opens F.faults root Anywhere (IsBelow (place.now.name ++ part.now ∷ [])) (result ≡ Walk.Done) (result ≡ Walk.Fault) items.old.items items.new.items folder.old folder.new }
+        Adds root ⊤ (IsBelow (place.now.name ++ part.now ∷ [])) result items.old.items items.new.items (F.view folder.old) (F.view folder.new) }
 {
     if !is_key_name(part) {
         return Walk::Done;
@@ -135,7 +132,7 @@ fn add_keys<F: Folder>(
 ) -> Walk
     requires { All (λ n. IsTrue (is_part n.part)) names.now }
     ensures { (root : PathView) → IsAt root IsFunctionParts place.now →
-        Adds F.token F.told F.history F.opens F.faults root (AreDistinct names.now) (Under place.now.name names.now) (result ≡ Walk.Done) (result ≡ Walk.Fault) items.old.items items.new.items folder.old folder.new }
+        Adds root (AreDistinct names.now) (Under place.now.name names.now) result items.old.items items.new.items (F.view folder.old) (F.view folder.new) }
 {
     for name in names {
         match add_key(alloc, folder, place, name.part.as_str(), items) {
@@ -154,7 +151,7 @@ fn add_function<F: Folder>(
     items: &mut Vec<Item>,
 ) -> Walk
     ensures { (root : PathView) → IsAt root IsFunctionParts place.now →
-        Adds F.token F.told F.history F.opens F.faults root Anywhere (IsBelow place.now.name) (result ≡ Walk.Done) (result ≡ Walk.Fault) items.old.items items.new.items folder.old folder.new }
+        Adds root ⊤ (IsBelow place.now.name) result items.old.items items.new.items (F.view folder.old) (F.view folder.new) }
 {
     match folder.list(&place.folder) {
         Listed::Names(names) => add_keys(alloc, folder, place, names.as_slice(), items),
@@ -174,7 +171,7 @@ fn add_function_name<F: Folder>(
 ) -> Walk
     requires { IsTrue (is_part part.now) }
     ensures { (root : PathView) → IsAt root IsModuleParts place.now →
-        Adds F.token F.told F.history F.opens F.faults root Anywhere (IsBelow (place.now.name ++ part.now ∷ [])) (result ≡ Walk.Done) (result ≡ Walk.Fault) items.old.items items.new.items folder.old folder.new }
+        Adds root ⊤ (IsBelow (place.now.name ++ part.now ∷ [])) result items.old.items items.new.items (F.view folder.old) (F.view folder.new) }
 {
     if !is_name(part) {
         return Walk::Done;
@@ -194,7 +191,7 @@ fn add_function_names<F: Folder>(
 ) -> Walk
     requires { All (λ n. IsTrue (is_part n.part)) names.now }
     ensures { (root : PathView) → IsAt root IsModuleParts place.now →
-        Adds F.token F.told F.history F.opens F.faults root (AreDistinct names.now) (Under place.now.name names.now) (result ≡ Walk.Done) (result ≡ Walk.Fault) items.old.items items.new.items folder.old folder.new }
+        Adds root (AreDistinct names.now) (Under place.now.name names.now) result items.old.items items.new.items (F.view folder.old) (F.view folder.new) }
 {
     for name in names {
         match add_function_name(alloc, folder, place, name.part.as_str(), items) {
@@ -213,7 +210,7 @@ fn add_module<F: Folder>(
     items: &mut Vec<Item>,
 ) -> Walk
     ensures { (root : PathView) → IsAt root IsModuleParts place.now →
-        Adds F.token F.told F.history F.opens F.faults root Anywhere (IsBelow place.now.name) (result ≡ Walk.Done) (result ≡ Walk.Fault) items.old.items items.new.items folder.old folder.new }
+        Adds root ⊤ (IsBelow place.now.name) result items.old.items items.new.items (F.view folder.old) (F.view folder.new) }
 {
     match folder.list(&place.folder) {
         Listed::Names(names) => add_function_names(alloc, folder, place, names.as_slice(), items),
@@ -233,7 +230,7 @@ fn add_module_name<F: Folder>(
 ) -> Walk
     requires { IsTrue (is_part part.now) }
     ensures { (root : PathView) → IsAt root IsRootParts place.now →
-        Adds F.token F.told F.history F.opens F.faults root Anywhere (IsBelow (place.now.name ++ part.now ∷ [])) (result ≡ Walk.Done) (result ≡ Walk.Fault) items.old.items items.new.items folder.old folder.new }
+        Adds root ⊤ (IsBelow (place.now.name ++ part.now ∷ [])) result items.old.items items.new.items (F.view folder.old) (F.view folder.new) }
 {
     if !is_name(part) {
         return Walk::Done;
@@ -253,7 +250,7 @@ fn add_module_names<F: Folder>(
 ) -> Walk
     requires { All (λ n. IsTrue (is_part n.part)) names.now }
     ensures { (root : PathView) → IsAt root IsRootParts place.now →
-        Adds F.token F.told F.history F.opens F.faults root (AreDistinct names.now) (Under place.now.name names.now) (result ≡ Walk.Done) (result ≡ Walk.Fault) items.old.items items.new.items folder.old folder.new }
+        Adds root (AreDistinct names.now) (Under place.now.name names.now) result items.old.items items.new.items (F.view folder.old) (F.view folder.new) }
 {
     for name in names {
         match add_module_name(alloc, folder, place, name.part.as_str(), items) {
@@ -272,7 +269,7 @@ pub(crate) fn add_root<F: Folder>(
     items: &mut Vec<Item>,
 ) -> Walk
     ensures { (root : PathView) → IsAt root IsRootParts place.now →
-        Adds F.token F.told F.history F.opens F.faults root Anywhere (IsBelow place.now.name) (result ≡ Walk.Done) (result ≡ Walk.Fault) items.old.items items.new.items folder.old folder.new }
+        Adds root ⊤ (IsBelow place.now.name) result items.old.items items.new.items (F.view folder.old) (F.view folder.new) }
 {
     match folder.list(&place.folder) {
         Listed::Names(names) => add_module_names(alloc, folder, place, names.as_slice(), items),

@@ -2,7 +2,7 @@ use Rattle.std.proofs.Common.{◌≡◌, ◌∙◌, ap, subst, Contains}
 use Rattle.jl_text.specs.Paths.{PathView, path_of}
 use Rattle.jl_entry.specs.Names.{IsBelow, below}
 use Rattle.jl_rely.specs.Claims.{Anywhere}
-use Rattle.jl_clear.specs.declared.removing.Clear.TheVariants.{Cleared, Fault, NoMemory}
+use Rattle.jl_clear.specs.declared.removing.Clear.TheVariants.{NoMemory}
 use Rattle.jl_clear.specs.Clearing.{Clears}
 use Rattle.jl_clear.proofs.Parts.{clears_none}
 use Rattle.jl_evict.specs.Reducing.{IsOf}
@@ -24,12 +24,15 @@ join_all-requires g c = λ p among.
 pub returns : goal.returns
 returns g c =
     let root = c.args.root.now in
+    let v = g.F.Folder.view in
     let folder : c.in-Ok.entry ≡ below root (path_of c.args.item.now.path) = c.in-Ok.ensures ∙ ap (λ (q : PathView). below root q) (c.parts.ensures.same ∙ c.in-Some.ensures) in
-    subst (λ (q : PathView). Clears g.F.Folder.token g.F.Folder.told g.F.Folder.history g.F.Folder.opens g.F.Folder.faults root Anywhere (IsBelow q) (IsBelow q) (c.clear_entry.result ≡ Cleared) (c.clear_entry.result ≡ Fault) c.args.folder.now c.clear_entry.new.folder) folder
+    subst (λ (q : PathView). Clears root Anywhere (IsBelow q) (IsBelow q) (IsBelow q) c.clear_entry.result (v c.args.folder.now) (v c.clear_entry.new.folder)) folder
     (c.clear_entry.ensures root (item_folder root c.in-Ok.entry c.args.item.now.path c.requires folder))
 
 pub returns-in_default : goal.returns-in_default
-returns-in_default g c = clears_none g.F.Folder.token g.F.Folder.told g.F.Folder.history g.F.Folder.opens g.F.Folder.faults c.args.root.now Anywhere (IsOf c.args.root.now c.args.item.now) (IsOf c.args.root.now c.args.item.now) (NoMemory ≡ Cleared) (NoMemory ≡ Fault) c.args.folder.now (λ f. cc) (λ done. cc)
+returns-in_default g c =
+    let Of : PathView → Type 0 = IsOf c.args.root.now c.args.item.now in clears_none c.args.root.now Anywhere Of Of Of NoMemory (g.F.Folder.view c.args.folder.now) (λ f. cc) (λ done. cc) (λ done. cc)
 
 pub returns-in_default-join_all : goal.returns-in_default-join_all
-returns-in_default-join_all g c = clears_none g.F.Folder.token g.F.Folder.told g.F.Folder.history g.F.Folder.opens g.F.Folder.faults c.args.root.now Anywhere (IsOf c.args.root.now c.args.item.now) (IsOf c.args.root.now c.args.item.now) (NoMemory ≡ Cleared) (NoMemory ≡ Fault) c.args.folder.now (λ f. cc) (λ done. cc)
+returns-in_default-join_all g c =
+    let Of : PathView → Type 0 = IsOf c.args.root.now c.args.item.now in clears_none c.args.root.now Anywhere Of Of Of NoMemory (g.F.Folder.view c.args.folder.now) (λ f. cc) (λ done. cc) (λ done. cc)

@@ -3,7 +3,7 @@ use Rattle.std.proofs.lemmas.List.{take_all}
 use Rattle.jl_evict.specs.declared.item.Item.{Item}
 use Rattle.jl_evict.specs.Choosing.{bytes_of}
 use Rattle.jl_evict.specs.Items.{held}
-use Rattle.jl_evict.proofs.MeasureLemmas.{held_more}
+use Rattle.jl_evict.proofs.SumLemmas.{held_more}
 use Rattle.jl_evict.proofs.reducing.held_bytes.Goals as goal
 
 pub loop-item-preserved : goal.loop-item-preserved

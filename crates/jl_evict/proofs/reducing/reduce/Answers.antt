@@ -1,9 +1,8 @@
-use Rattle.std.proofs.Common.{◌≡◌, List, take, subst, sym}
+use Rattle.std.proofs.Common.{List, take, subst, sym}
 use Rattle.jl_rely.specs.Claims.{Anywhere}
 use Rattle.jl_clear.specs.Clearing.{Clears}
 use Rattle.jl_evict.specs.declared.item.Item.{Item}
-use Rattle.jl_evict.specs.declared.reducing.Reduced.TheVariants as reduced
-use Rattle.jl_evict.specs.Reducing.{ArePaths, Chosen, IsReport, IsReportOf}
+use Rattle.jl_evict.specs.Reducing.{ArePaths, Chosen, clear_of, IsReportOf}
 use Rattle.jl_evict.proofs.ReduceLemmas.{paths_chosen}
 use Rattle.jl_evict.proofs.reducing.reduce.Goals as goal
 
@@ -16,6 +15,8 @@ pub returns : goal.returns
 returns g c =
     let k = c.choose-count.result in
     let r = c.report.result in
+    let v = g.F.Folder.view in
+    let root = c.args.root.now in
     record {
       items = c.choose-count.new.items.items;
       same = c.choose-count.ensures.permutation;
@@ -23,5 +24,5 @@ returns g c =
       choice = record { order = c.choose-count.ensures.order; shortest = c.choose-count.ensures.count };
       paths = paths_chosen c.args.items.items c.choose-count.new.items.items k c.choose-count.ensures.permutation c.requires;
       reports = subst (λ (xs : List Item). IsReportOf (take k xs) r) c.as_slice.ensures.value c.report.ensures.reports;
-      clears = subst (λ (xs : List Item). Clears g.F.Folder.token g.F.Folder.told g.F.Folder.history g.F.Folder.opens g.F.Folder.faults c.args.root.now Anywhere (Chosen c.args.root.now (take k xs)) (Chosen c.args.root.now (take k xs)) (IsReport r) (r ≡ reduced.FolderFault) c.args.folder.now c.report.new.folder) c.as_slice.ensures.value c.report.ensures.clears;
+      clears = subst (λ (xs : List Item). Clears root Anywhere (Chosen root (take k xs)) (Chosen root (take k xs)) (Chosen root (take k xs)) (clear_of r) (v c.args.folder.now) (v c.report.new.folder)) c.as_slice.ensures.value c.report.ensures.clears;
     }

@@ -1,32 +1,31 @@
-use Rattle.std.proofs.Common.{◌≡◌, List, refl, subst}
+use Rattle.std.proofs.Common.{◌∙◌, List, refl, sym, subst}
+use Rattle.std.specs.Prelude.{⊤}
 use Rattle.jl_folder.specs.declared.listing.Name.{Name}
 use Rattle.jl_entry.specs.Names.{IsBelow}
-use Rattle.jl_rely.specs.Claims.{Anywhere}
 use Rattle.jl_evict.specs.declared.walk.Walk.TheVariants as walk
-use Rattle.jl_evict.specs.Walks.{Adds, Listing}
-use Rattle.jl_evict.proofs.TellLemmas.{tells_waits}
-use Rattle.jl_evict.proofs.WalkLemmas.{adds_listed, adds_absent, adds_failed}
+use Rattle.jl_evict.specs.Walks.{AddsOne, HasListed}
+use Rattle.jl_evict.proofs.WalkLemmas.{adds_one, adds_absent, adds_unlisted}
 use Rattle.jl_evict.proofs.walk.add_entry.Goals as goal
 
 pub returns-in-Names : goal.returns-in-Names
 returns-in-Names g c = λ root at.
     let e = c.list.ensures in
-    adds_listed g.F.Folder.token g.F.Folder.told g.F.Folder.history g.F.Folder.opens g.F.Folder.faults root c.args.place.now c.in-Names.names (IsBelow c.args.place.now.name) (c.add_listed.result ≡ walk.Done) (c.add_listed.result ≡ walk.Fault) c.args.items.now.items c.add_listed.new.items.items c.args.folder.now c.list.new.self c.add_listed.new.folder e.told e.token e.opens e.faults.later e.waits c.in-Names.ensures.names
-    (subst (λ (ns : List Name). Adds g.F.Folder.token g.F.Folder.told g.F.Folder.history g.F.Folder.opens g.F.Folder.faults root (Listing c.args.place.now.folder ns) (IsBelow c.args.place.now.name) (c.add_listed.result ≡ walk.Done) (c.add_listed.result ≡ walk.Fault) c.args.items.now.items c.add_listed.new.items.items c.list.new.self c.add_listed.new.folder) c.as_slice.ensures (c.add_listed.ensures root at))
+    let v = g.F.Folder.view in
+    let place = c.args.place.now in
+    adds_one root place (v c.args.folder.now) (v c.list.new.self) e.frame e.waits c.in-Names.names c.add_listed.result c.args.items.now.items c.add_listed.new.items.items (v c.add_listed.new.folder) (λ f. let h = sym c.in-Names.is ∙ f in cc) c.in-Names.ensures.names at
+    (subst (λ (ns : List Name). AddsOne place (HasListed place ns) c.add_listed.result c.args.items.now.items c.add_listed.new.items.items (v c.list.new.self) (v c.add_listed.new.folder)) c.as_slice.ensures c.add_listed.ensures)
 
 pub returns-in-NoDir : goal.returns-in-NoDir
 returns-in-NoDir g c = λ root at.
     let e = c.list.ensures in
-    adds_absent g.F.Folder.token g.F.Folder.told g.F.Folder.history g.F.Folder.opens g.F.Folder.faults root c.args.place.now (walk.Done ≡ walk.Done) (walk.Done ≡ walk.Fault) c.args.items.now.items c.args.folder.now c.list.new.self at.folder e.told e.token e.opens e.faults.later (λ f. cc) e.waits c.in-NoDir.ensures.names
+    adds_absent root c.args.place.now (g.F.Folder.view c.args.folder.now) (g.F.Folder.view c.list.new.self) e.frame e.waits c.args.items.now.items at.folder (λ f. let h = sym c.in-NoDir.is ∙ f in cc) c.in-NoDir.ensures.names
 
 pub returns-in-Failed : goal.returns-in-Failed
 returns-in-Failed g c = λ root at.
     let e = c.list.ensures in
-    adds_failed g.F.Folder.token g.F.Folder.told g.F.Folder.history g.F.Folder.opens g.F.Folder.faults root Anywhere Anywhere (IsBelow c.args.place.now.name) ⊥ (walk.Fault ≡ walk.Done) (Unit {0}) (walk.Fault ≡ walk.Fault) Anywhere c.args.items.now.items c.args.folder.now c.list.new.self (λ d. cc) (λ f. tt)
-    (tells_waits g.F.Folder.token g.F.Folder.told g.F.Folder.history g.F.Folder.opens g.F.Folder.faults Anywhere ⊥ (Unit {0}) Anywhere c.args.folder.now c.list.new.self e.told e.token e.opens e.faults.later (λ f. c.in-Failed.ensures.faults.failed refl) e.waits (λ t d. absurd d))
+    adds_unlisted root c.args.place.now (g.F.Folder.view c.args.folder.now) (g.F.Folder.view c.list.new.self) e.frame e.waits ⊤ (IsBelow c.args.place.now.name) walk.Fault c.args.items.now.items (λ f. c.in-Failed.is) (λ f. refl) (λ d. cc)
 
 pub returns-in-NoMemory : goal.returns-in-NoMemory
 returns-in-NoMemory g c = λ root at.
     let e = c.list.ensures in
-    adds_failed g.F.Folder.token g.F.Folder.told g.F.Folder.history g.F.Folder.opens g.F.Folder.faults root Anywhere Anywhere (IsBelow c.args.place.now.name) ⊥ (walk.NoMemory ≡ walk.Done) ⊥ (walk.NoMemory ≡ walk.Fault) Anywhere c.args.items.now.items c.args.folder.now c.list.new.self (λ d. cc) (λ f. cc)
-    (tells_waits g.F.Folder.token g.F.Folder.told g.F.Folder.history g.F.Folder.opens g.F.Folder.faults Anywhere ⊥ ⊥ Anywhere c.args.folder.now c.list.new.self e.told e.token e.opens e.faults.later (λ f. absurd f) e.waits (λ t d. absurd d))
+    adds_unlisted root c.args.place.now (g.F.Folder.view c.args.folder.now) (g.F.Folder.view c.list.new.self) e.frame e.waits ⊤ (IsBelow c.args.place.now.name) walk.NoMemory c.args.items.now.items (λ f. cc) (λ f. let h = sym c.in-NoMemory.is ∙ f in cc) (λ d. cc)

@@ -1,7 +1,7 @@
-use Rattle.std.proofs.Common.{◌≡◌, ◌∙◌, ◌++◌, ◌∷◌, [], sym, subst, true≢false}
+use Rattle.std.proofs.Common.{◌∙◌, ◌++◌, ◌∷◌, [], sym, subst, true≢false}
+use Rattle.std.specs.Prelude.{⊤}
 use Rattle.jl_text.specs.Paths.{PathView}
 use Rattle.jl_entry.specs.Names.{IsBelow, IsKeyName}
-use Rattle.jl_rely.specs.Claims.{Anywhere}
 use Rattle.jl_evict.specs.declared.walk.Walk.TheVariants as walk
 use Rattle.jl_evict.specs.Walks.{Adds}
 use Rattle.jl_evict.proofs.WalkLemmas.{adds_none, in_function, at_entry, part_split}
@@ -9,17 +9,18 @@ use Rattle.jl_evict.proofs.walk.add_key.Goals as goal
 
 pub returns-then-not-is_key_name : goal.returns-then-not-is_key_name
 returns-then-not-is_key_name g c = λ root at.
-    adds_none g.F.Folder.token g.F.Folder.told g.F.Folder.history g.F.Folder.opens g.F.Folder.faults root Anywhere (IsBelow (c.args.place.now.name ++ c.args.part.now ∷ [])) (walk.Done ≡ walk.Done) (walk.Done ≡ walk.Fault) c.args.items.now.items c.args.folder.now (λ f. cc)
-    (λ d s parts form of there.
+    adds_none root ⊤ (IsBelow (c.args.place.now.name ++ c.args.part.now ∷ [])) walk.Done c.args.items.now.items (g.F.Folder.view c.args.folder.now) (λ f. cc)
+    (λ d parts form of.
     let split = part_split c.args.place.now.name c.args.part.now parts of in
     let is : IsKeyName c.args.part.now = in_function c.args.place.now.name c.args.part.now split.0 parts at.form form split.1 in
     true≢false (sym is ∙ sym c.is_key_name.ensures ∙ c.if-not-is_key_name.true))
 
 pub returns-in_default : goal.returns-in_default
-returns-in_default g c = λ root at. adds_none g.F.Folder.token g.F.Folder.told g.F.Folder.history g.F.Folder.opens g.F.Folder.faults root Anywhere (IsBelow (c.args.place.now.name ++ c.args.part.now ∷ [])) (walk.NoMemory ≡ walk.Done) (walk.NoMemory ≡ walk.Fault) c.args.items.now.items c.args.folder.now (λ f. cc) (λ d. cc)
+returns-in_default g c = λ root at. adds_none root ⊤ (IsBelow (c.args.place.now.name ++ c.args.part.now ∷ [])) walk.NoMemory c.args.items.now.items (g.F.Folder.view c.args.folder.now) (λ f. cc) (λ d. cc)
 
 pub returns : goal.returns
 returns g c = λ root at.
     let is : IsKeyName c.args.part.now = sym c.is_key_name.ensures ∙ c.if-not-is_key_name.false in
-    subst (λ (p : PathView). Adds g.F.Folder.token g.F.Folder.told g.F.Folder.history g.F.Folder.opens g.F.Folder.faults root Anywhere (IsBelow p) (c.add_entry.result ≡ walk.Done) (c.add_entry.result ≡ walk.Fault) c.args.items.now.items c.add_entry.new.items.items c.args.folder.now c.add_entry.new.folder) c.in-Ok.ensures.name
+    let v = g.F.Folder.view in
+    subst (λ (p : PathView). Adds root ⊤ (IsBelow p) c.add_entry.result c.args.items.now.items c.add_entry.new.items.items (v c.args.folder.now) (v c.add_entry.new.folder)) c.in-Ok.ensures.name
     (c.add_entry.ensures root (at_entry root c.args.place.now c.in-Ok.entry c.args.part.now at is c.in-Ok.ensures.folder c.in-Ok.ensures.name))

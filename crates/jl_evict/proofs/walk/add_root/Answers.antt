@@ -1,41 +1,34 @@
-use Rattle.std.proofs.Common.{◌≡◌, List, refl, ap, subst, arith, length, ◌<◌}
+use Rattle.std.proofs.Common.{◌∙◌, List, refl, sym, ap, subst, arith, length, ◌<◌}
+use Rattle.std.specs.Prelude.{⊤}
 use Rattle.jl_folder.specs.declared.listing.Name.{Name}
 use Rattle.jl_entry.specs.Names.{IsBelow}
-use Rattle.jl_rely.specs.Claims.{Anywhere}
 use Rattle.jl_evict.specs.declared.walk.Walk.TheVariants as walk
-use Rattle.jl_evict.specs.Walks.{Adds, Listing, Under, AreDistinct}
+use Rattle.jl_evict.specs.Walks.{Adds, Under, AreDistinct}
 use Rattle.jl_clear.proofs.Folders.{name_there}
-use Rattle.jl_evict.proofs.TellLemmas.{tells_waits}
-use Rattle.jl_evict.proofs.WalkLemmas.{adds_as, adds_listed, adds_absent, adds_failed, behind, under_all, under_below, in_root}
+use Rattle.jl_evict.proofs.WalkLemmas.{adds_listed, adds_absent, adds_unlisted, behind, in_root}
 use Rattle.jl_evict.proofs.walk.add_root.Goals as goal
 
 pub returns-in-Names : goal.returns-in-Names
 returns-in-Names g c = λ root at.
     let e = c.list.ensures in
+    let v = g.F.Folder.view in
     let place = c.args.place.now in
-    let names = c.in-Names.names in
     let short : length place.name < 3 = omega (arith, ap length at.form) in
-    adds_listed g.F.Folder.token g.F.Folder.told g.F.Folder.history g.F.Folder.opens g.F.Folder.faults root place names (IsBelow place.name) (c.add_module_names.result ≡ walk.Done) (c.add_module_names.result ≡ walk.Fault) c.args.items.now.items c.add_module_names.new.items.items c.args.folder.now c.list.new.self c.add_module_names.new.folder e.told e.token e.opens e.faults.later e.waits c.in-Names.ensures.names
-    (adds_as g.F.Folder.token g.F.Folder.told g.F.Folder.history g.F.Folder.opens g.F.Folder.faults root (AreDistinct names) (Listing place.folder names) (Under place.name names) (IsBelow place.name) (c.add_module_names.result ≡ walk.Done) (c.add_module_names.result ≡ walk.Done) (c.add_module_names.result ≡ walk.Fault) (c.add_module_names.result ≡ walk.Fault) c.args.items.now.items c.add_module_names.new.items.items c.list.new.self c.add_module_names.new.folder (λ d. d) (λ f. f)
-    (λ s state lists. lists.once) (λ parts form of. under_below place.name names parts of)
-    (λ s state lists parts form stands of.
-    let part = behind place.name parts short form of in
-    under_all root place names s state at.folder lists part.0 part.1 parts (name_there part.0 (in_root place.name part.0 part.1 parts at.form form part.2)) part.2 stands)
-    (subst (λ (ns : List Name). Adds g.F.Folder.token g.F.Folder.told g.F.Folder.history g.F.Folder.opens g.F.Folder.faults root (AreDistinct ns) (Under place.name ns) (c.add_module_names.result ≡ walk.Done) (c.add_module_names.result ≡ walk.Fault) c.args.items.now.items c.add_module_names.new.items.items c.list.new.self c.add_module_names.new.folder) c.as_slice.ensures (c.add_module_names.ensures root at)))
+    adds_listed root place (v c.args.folder.now) (v c.list.new.self) e.frame e.waits c.in-Names.names c.add_module_names.result c.args.items.now.items c.add_module_names.new.items.items (v c.add_module_names.new.folder) (λ f. let h = sym c.in-Names.is ∙ f in cc) c.in-Names.ensures.names at.folder
+    (λ parts form of. let part = behind place.name parts short form of in (part.0, part.1, part.2, name_there part.0 (in_root place.name part.0 part.1 parts at.form form part.2)))
+    (subst (λ (ns : List Name). Adds root (AreDistinct ns) (Under place.name ns) c.add_module_names.result c.args.items.now.items c.add_module_names.new.items.items (v c.list.new.self) (v c.add_module_names.new.folder)) c.as_slice.ensures (c.add_module_names.ensures root at))
 
 pub returns-in-NoDir : goal.returns-in-NoDir
 returns-in-NoDir g c = λ root at.
     let e = c.list.ensures in
-    adds_absent g.F.Folder.token g.F.Folder.told g.F.Folder.history g.F.Folder.opens g.F.Folder.faults root c.args.place.now (walk.Done ≡ walk.Done) (walk.Done ≡ walk.Fault) c.args.items.now.items c.args.folder.now c.list.new.self at.folder e.told e.token e.opens e.faults.later (λ f. cc) e.waits c.in-NoDir.ensures.names
+    adds_absent root c.args.place.now (g.F.Folder.view c.args.folder.now) (g.F.Folder.view c.list.new.self) e.frame e.waits c.args.items.now.items at.folder (λ f. let h = sym c.in-NoDir.is ∙ f in cc) c.in-NoDir.ensures.names
 
 pub returns-in-Failed : goal.returns-in-Failed
 returns-in-Failed g c = λ root at.
     let e = c.list.ensures in
-    adds_failed g.F.Folder.token g.F.Folder.told g.F.Folder.history g.F.Folder.opens g.F.Folder.faults root Anywhere Anywhere (IsBelow c.args.place.now.name) ⊥ (walk.Fault ≡ walk.Done) (Unit {0}) (walk.Fault ≡ walk.Fault) Anywhere c.args.items.now.items c.args.folder.now c.list.new.self (λ d. cc) (λ f. tt)
-    (tells_waits g.F.Folder.token g.F.Folder.told g.F.Folder.history g.F.Folder.opens g.F.Folder.faults Anywhere ⊥ (Unit {0}) Anywhere c.args.folder.now c.list.new.self e.told e.token e.opens e.faults.later (λ f. c.in-Failed.ensures.faults.failed refl) e.waits (λ t d. absurd d))
+    adds_unlisted root c.args.place.now (g.F.Folder.view c.args.folder.now) (g.F.Folder.view c.list.new.self) e.frame e.waits ⊤ (IsBelow c.args.place.now.name) walk.Fault c.args.items.now.items (λ f. c.in-Failed.is) (λ f. refl) (λ d. cc)
 
 pub returns-in-NoMemory : goal.returns-in-NoMemory
 returns-in-NoMemory g c = λ root at.
     let e = c.list.ensures in
-    adds_failed g.F.Folder.token g.F.Folder.told g.F.Folder.history g.F.Folder.opens g.F.Folder.faults root Anywhere Anywhere (IsBelow c.args.place.now.name) ⊥ (walk.NoMemory ≡ walk.Done) ⊥ (walk.NoMemory ≡ walk.Fault) Anywhere c.args.items.now.items c.args.folder.now c.list.new.self (λ d. cc) (λ f. cc)
-    (tells_waits g.F.Folder.token g.F.Folder.told g.F.Folder.history g.F.Folder.opens g.F.Folder.faults Anywhere ⊥ ⊥ Anywhere c.args.folder.now c.list.new.self e.told e.token e.opens e.faults.later (λ f. absurd f) e.waits (λ t d. absurd d))
+    adds_unlisted root c.args.place.now (g.F.Folder.view c.args.folder.now) (g.F.Folder.view c.list.new.self) e.frame e.waits ⊤ (IsBelow c.args.place.now.name) walk.NoMemory c.args.items.now.items (λ f. cc) (λ f. let h = sym c.in-NoMemory.is ∙ f in cc) (λ d. cc)
