@@ -1,5 +1,5 @@
 -- What the arguments of a text are, by the steps of their reading.
-use Rattle.std.proofs.Common.{◌≡◌, ◌≢◌, ◌∙◌, ℕ, ◌<◌, ◌≤◌, List, [], ◌∷◌, length, Result, Ok, Err, IfOk, IfErr, refl, ap, if◌then◌else◌}
+use Rattle.std.proofs.Common.{◌≡◌, ◌≢◌, ◌∙◌, ℕ, ◌<◌, ◌≤◌, List, [], ◌∷◌, length, Option, None, Some, Result, Ok, Err, IfOk, IfErr, refl, ap, if◌then◌else◌}
 use Rattle.std.proofs.lemmas.Bool.{lt-ltb, le-ltb}
 use Rattle.jl_value.specs.declared.fault.ValueFault.{ValueFault}
 use Rattle.jl_value.specs.declared.fault.ValueFault.TheVariants as value
@@ -10,6 +10,8 @@ use Rattle.jl_value.specs.Key.{args_tree}
 use Rattle.jl_value.specs.Form.{tree_of}
 use Rattle.jl_value.specs.Walked.{read_bytes}
 use Rattle.jl_cmd.specs.declared.arguments.ArgumentsFault.TheVariants.{TooLong, NotTable, Memory}
+use Rattle.jl_value.specs.declared.library.ModuleFault.{ModuleFault}
+use Rattle.jl_cmd.specs.Output.{module_fault_of, too_large}
 use Rattle.jl_cmd.specs.Arguments.{arguments_of, sized_of, table_in, members_in, fault_of}
 
 pub arguments_of-long : (s : List ℕ) → 1048576 < length s → arguments_of s ≡ Err TooLong
@@ -54,3 +56,7 @@ members_in-other (Numbers zs) h = refl
 -- only want of memory is told as such
 pub fault_of-memory : (e : ValueFault) → fault_of e ≢ Memory → e ≢ value.Memory
 fault_of-memory e h same = h (ap fault_of same)
+
+-- bytes that are a module to the library, and not too many, are without a fault
+pub no_fault : (fault : List ℕ → Option ModuleFault) (m loaded : List ℕ) → length m ≤ 1048576 → fault m ≡ None → loaded ≡ m → module_fault_of fault loaded ≡ None
+no_fault fault m loaded few none same = ap (module_fault_of fault) same ∙ ap (λ b. if b then Some too_large else fault m) (le-ltb _ _ few) ∙ none

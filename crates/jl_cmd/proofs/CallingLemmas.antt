@@ -3,16 +3,19 @@ use Rattle.std.proofs.Common.{◌≡◌, ◌∙◌, ◌⊎◌, inl, inr, ⊎_eli
 use Rattle.std.specs.Prelude.{⊤}
 use Rattle.jl_text.specs.Paths.{PathView}
 use Rattle.jl_text.specs.Counts.{Rose}
-use Rattle.jl_folder.specs.State.{State, History, now, since}
+use Rattle.jl_folder.specs.State.{State}
+use Rattle.jl_folder.specs.declared.moves.Move.{Move}
+use Rattle.jl_folder.specs.Views.{FolderView, FolderKeeps, state, moved}
 use Rattle.jl_folder.specs.Calls.{Waits}
+use Rattle.jl_streams.specs.Views.{SinkView, HostView}
 use Rattle.jl_value.specs.Library.{Answer}
 use Rattle.jl_rely.specs.Steps.{IsLone}
 use Rattle.jl_rely.specs.Claims.{GoesOn}
 use Rattle.jl_rely.specs.Touches.{TouchedByOther}
 use Rattle.jl_rely.proofs.Alone.{lone_parts, waits_alone}
 use Rattle.jl_rely.proofs.Causes.{touched_later}
+use Rattle.jl_rely.proofs.Composed.{goes_waits}
 use Rattle.jl_entry.specs.Names.{root_of}
-use Rattle.jl_protocol.specs.Whole.{Answers}
 use Rattle.jl_protocol.specs.Tidy.{IsSound}
 use Rattle.jl_protocol.specs.Proper.{IsLawful}
 use Rattle.jl_protocol.proofs.Before.{one_value}
@@ -24,9 +27,9 @@ use Rattle.jl_store.specs.declared.cached.Cached.{Cached}
 use Rattle.jl_store.specs.declared.cached.Cached.TheVariants as cached
 use Rattle.jl_store.specs.Cached.{IsAnswer, CountsCall}
 use Rattle.jl_store.specs.Trust.{IsTrusted}
-use Rattle.jl_store.specs.Next.{Asked, output_asked, LeavesNext, AreTimed}
+use Rattle.jl_store.specs.Asked.{Asked, output_asked}
+use Rattle.jl_store.specs.Next.{LeavesNext, AreTimed}
 use Rattle.jl_store.specs.Warned.{UsesCall, IsCaused, AreCaused}
-use Rattle.jl_store.proofs.Lawfully.{Lawfully}
 use Rattle.jl_store.proofs.CodeAlone.{lone_owed}
 use Rattle.jl_store.proofs.Causing.{opened_later, orderly_later}
 use Rattle.jl_words.specs.ModuleNames.{module_name_of}
@@ -35,11 +38,13 @@ use Rattle.jl_cmd.specs.declared.computed.Computed.TheVariants as computed
 use Rattle.jl_cmd.specs.declared.ended.Ended.{Ended}
 use Rattle.jl_cmd.specs.declared.ended.Ended.TheVariants.{Done, Failed, Usage, Refused, ReadFault, WriteFault, NoMemory, NoModule, FolderFault}
 use Rattle.jl_cmd.specs.Commands.{Command, call, hash, clear as clears, reduce_size, tracker}
-use Rattle.jl_cmd.specs.Endings.{ReadsFirst, status_of}
+use Rattle.jl_cmd.specs.Course.{Meanings, Stretch, stretch, Course, stretch_of}
+use Rattle.jl_cmd.specs.Caches.{CallsLawfully}
+use Rattle.jl_cmd.specs.Endings.{ReadFrom, status_of}
 use Rattle.jl_cmd.specs.Run.{IsPrinted, IsFailed, IsRefused, WritesWarned}
 use Rattle.jl_cmd.specs.Texts.{warning_lines}
-use Rattle.jl_cmd.specs.Calling.{Asks, asked_by, memory_at, CallWarns, Course, AreOfCall, IsStatusOf, LeavesAsked, LeavesCalled, LeavesRead, ComputedAt, EndedAt}
-use Rattle.jl_cmd.specs.Saying.{GivenLeaves, StatusAt}
+use Rattle.jl_cmd.specs.Calling.{Asks, asked_by, memory_at, CallWarns, AreOfCall, IsStatusOf, LeavesAsked, LeavesCalled, LeavesRead, ComputedAt, EndedAt}
+use Rattle.jl_cmd.specs.Saying.{CallSays, CallLeaves, GivenLeaves, StatusAt}
 
 -- ---- claims on statuses
 
@@ -81,20 +86,20 @@ pub folder_at_end : (e : Ended) (P : ℕ → Type 0) → e ≡ FolderFault → E
 folder_at_end e P is = subst (λ (e' : Ended). EndedAt e' P) (sym is) tt
 
 -- what was computed, once it is written
-pub written_at : (c : Computed) (e : Ended) (P : ℕ → Type 0) (tells : Type 0) (f f' : ℕ) (w w' : List ℕ) → WritesWarned c e tells f f' w w' → ComputedAt c P → EndedAt e P
-written_at c e P tells f f' w w' (inr lost) h = memory_at_end e P lost.0
-written_at (computed.Printed t) Done P tells f f' w w' (inl x) h = h
-written_at (computed.Printed t) WriteFault P tells f f' w w' (inl x) h = tt
-written_at (computed.Printed t) (Failed u) P tells f f' w w' (inl x) h = absurd x
-written_at (computed.Printed t) Usage P tells f f' w w' (inl x) h = tt
-written_at (computed.Printed t) (Refused u) P tells f f' w w' (inl x) h = tt
-written_at (computed.Printed t) ReadFault P tells f f' w w' (inl x) h = tt
-written_at (computed.Printed t) NoMemory P tells f f' w w' (inl x) h = tt
-written_at (computed.Printed t) NoModule P tells f f' w w' (inl x) h = tt
-written_at (computed.Printed t) FolderFault P tells f f' w w' (inl x) h = tt
-written_at (computed.Failed t) e P tells f f' w w' (inl x) h = subst (λ (e' : Ended). EndedAt e' P) (sym x.0) h
-written_at (computed.Refused t) e P tells f f' w w' (inl x) h = subst (λ (e' : Ended). EndedAt e' P) (sym x.0) tt
-written_at computed.NoMemory e P tells f f' w w' (inl x) h = memory_at_end e P x.0
+pub written_at : (c : Computed) (e : Ended) (P : ℕ → Type 0) (out out' : SinkView) → WritesWarned c e out out' → ComputedAt c P → EndedAt e P
+written_at c e P out out' (inr lost) h = memory_at_end e P lost.0
+written_at (computed.Printed t) Done P out out' (inl x) h = h
+written_at (computed.Printed t) WriteFault P out out' (inl x) h = tt
+written_at (computed.Printed t) (Failed u) P out out' (inl x) h = absurd x
+written_at (computed.Printed t) Usage P out out' (inl x) h = tt
+written_at (computed.Printed t) (Refused u) P out out' (inl x) h = tt
+written_at (computed.Printed t) ReadFault P out out' (inl x) h = tt
+written_at (computed.Printed t) NoMemory P out out' (inl x) h = tt
+written_at (computed.Printed t) NoModule P out out' (inl x) h = tt
+written_at (computed.Printed t) FolderFault P out out' (inl x) h = tt
+written_at (computed.Failed t) e P out out' (inl x) h = subst (λ (e' : Ended). EndedAt e' P) (sym x.0) h
+written_at (computed.Refused t) e P out out' (inl x) h = subst (λ (e' : Ended). EndedAt e' P) (sym x.0) tt
+written_at computed.NoMemory e P out out' (inl x) h = memory_at_end e P x.0
 
 -- ---- statuses of answers
 
@@ -115,23 +120,23 @@ status_at NoModule P h = λ n. absurd (neither 9 (λ e. omega arith) (λ e. omeg
 status_at FolderFault P h = λ n. absurd (neither 10 (λ e. omega arith) (λ e. omega arith) n)
 
 -- the same of what words give
-pub given_at : (given : Option Command) (w : Course) (answer : Answers) (clock : Type 0) (moments : List ℕ) (calls calls' : ℕ) (e : Ended) (n : ℕ) → n ≡ status_of e → GivenLeaves given w answer clock moments calls calls' (EndedAt e) → GivenLeaves given w answer clock moments calls calls' (StatusAt n)
-given_at None w answer clock moments calls calls' e n at h = tt
-given_at (Some (call file location name args)) w answer clock moments calls calls' e n at h = λ told m is lone sound rose.
-    subst (λ (k : ℕ). StatusAt k (LeavesRead w answer file (memory_at location m w.token) name args clock moments calls calls')) (sym at) (status_at e _ (h told m is lone sound rose))
-given_at (Some (hash args)) w answer clock moments calls calls' e n at h = tt
-given_at (Some (clears location m f key)) w answer clock moments calls calls' e n at h = tt
-given_at (Some (reduce_size location limits)) w answer clock moments calls calls' e n at h = tt
-given_at (Some tracker) w answer clock moments calls calls' e n at h = tt
+pub leaves_at : (given : Option Command) (w : Course) (e : Ended) (n : ℕ) → n ≡ status_of e → GivenLeaves given w (EndedAt e) → GivenLeaves given w (StatusAt n)
+leaves_at None w e n at h = tt
+leaves_at (Some (call file location name args)) w e n at h = λ told m is lone sound rose.
+    subst (λ (k : ℕ). StatusAt k (LeavesRead file (memory_at location m w.folder.token) name args (stretch_of w))) (sym at) (status_at e _ (h told m is lone sound rose))
+leaves_at (Some (hash args)) w e n at h = tt
+leaves_at (Some (clears location m f key)) w e n at h = tt
+leaves_at (Some (reduce_size location limits)) w e n at h = tt
+leaves_at (Some tracker) w e n at h = tt
 
 -- where no command was run
-pub given_nothing : (given : Option Command) (w : Course) (answer : Answers) (clock : Type 0) (moments : List ℕ) (calls calls' : ℕ) (e : Ended) → ((P : ℕ → Type 0) → EndedAt e P) → GivenLeaves given w answer clock moments calls calls' (EndedAt e)
-given_nothing None w answer clock moments calls calls' e none = tt
-given_nothing (Some (call file location name args)) w answer clock moments calls calls' e none = λ told m is lone sound rose. none _
-given_nothing (Some (hash args)) w answer clock moments calls calls' e none = tt
-given_nothing (Some (clears location m f key)) w answer clock moments calls calls' e none = tt
-given_nothing (Some (reduce_size location limits)) w answer clock moments calls calls' e none = tt
-given_nothing (Some tracker) w answer clock moments calls calls' e none = tt
+pub leaves_nothing : (given : Option Command) (w : Course) (e : Ended) → ((P : ℕ → Type 0) → EndedAt e P) → GivenLeaves given w (EndedAt e)
+leaves_nothing None w e none = tt
+leaves_nothing (Some (call file location name args)) w e none = λ told m is lone sound rose. none _
+leaves_nothing (Some (hash args)) w e none = tt
+leaves_nothing (Some (clears location m f key)) w e none = tt
+leaves_nothing (Some (reduce_size location limits)) w e none = tt
+leaves_nothing (Some tracker) w e none = tt
 
 -- ---- a lone call
 
@@ -142,43 +147,22 @@ trusted_answer (cached.Error e) x T trust h = h
 trusted_answer cached.NoMemory x T trust h = tt
 
 -- what the cached call leaves and answers, at a status of its own
-pub asked_leaves : (a : Asked) (answer : Answers) (r : Cached) (token : List ℕ) (tells : Type 0) (old new : History) (clock : Type 0) (moments : List ℕ) (calls calls' n : ℕ) → tells → IsStatusOf r n → IsAnswer r (answer a.code a.args) (IsTrusted a.root answer tells old new) → CountsCall r calls calls' → Lawfully a.root answer token old new → IsLone token (since old new) → IsSound a.root answer (now old)
-    → ((duration : ℕ) × (moment : ℕ) × LeavesNext r a duration moment (now old) (now new) × (clock → AreTimed r duration moment moments)) → LeavesAsked a answer (now old) (now new) clock moments calls calls' n
-asked_leaves a answer r token tells old new clock moments calls calls' n told is answers counts lawful lone sound leaves =
-    let steps = lone_owed (IsLawful a.root answer) (IsLawful a.root answer) token (λ t s m owed. owed) (now old) (since old new) lone (lawful.owes sound) in
+pub asked_leaves : (location : PathView) (a : Asked) (Kinds : Move → Type 0) (v : Stretch) (r : Cached) (n : ℕ) → v.folder.told → IsStatusOf r n → IsAnswer r (v.means.answer a.code a.args) (IsTrusted (root_of location) v.means.answer v.folder v.folder') → CountsCall r v.calls v.calls'
+    → CallsLawfully location v.means.answer Kinds v.folder v.folder' → IsLone v.folder.token (moved v.folder v.folder') → IsSound (root_of location) v.means.answer (state v.folder)
+    → ((duration : ℕ) × (moment : ℕ) × LeavesNext r a duration moment (state v.folder) (state v.folder') × (v.host.told → AreTimed r duration moment v.host)) → LeavesAsked a v n
+asked_leaves location a Kinds v r n told is answers counts lawful lone sound leaves =
+    let P = IsLawful (root_of location) v.means.answer in
+    let steps = lone_owed P P v.folder.token (λ t s m owed. owed) (state v.folder) (moved v.folder v.folder') lone (lawful.owes sound) in
     record {
       result = r;
       status = is;
-      answers = trusted_answer r (answer a.code a.args) (IsTrusted a.root answer tells old new) (told, sound, steps) answers;
+      answers = trusted_answer r (v.means.answer a.code a.args) (IsTrusted (root_of location) v.means.answer v.folder v.folder') (told, sound, steps) answers;
       counts = counts;
       duration = leaves.0;
       moment = leaves.1;
       leaves = leaves.2;
       timed = leaves.3;
     }
-
--- ---- warnings, beside the steps before
-
-module _ (a : Asked) (old mid new : History) (tells tells' : Type 0) (first : tells → GoesOn old mid) (second : tells → GoesOn mid new) (go : tells → tells') (f0 f1 f2 : ℕ) (later : f0 ≤ f1) where
-  rose_over : Rose f1 f2 → Rose f0 f2
-  rose_over rose = omega (arith, later, rose)
-
-  caused_over : (k : WarnKind) → IsCaused k a tells' f1 f2 mid new → IsCaused k a tells f0 f2 old new
-  caused_over LoadFault c = rose_over c
-  caused_over StoreFault c = rose_over c
-  caused_over NotMine c = λ t. opened_later old mid new (first t) (second t) (output_asked a) _ (c (go t))
-  caused_over Damaged c = λ t.
-      let h = c (go t) in (opened_later old mid new (first t) (second t) (output_asked a) _ h.0, λ orderly. h.1 (orderly_later old mid new (first t) (second t) a.root orderly))
-  caused_over Skipped c = λ t orderly.
-      ⊎_elim
-      (λ (touched : TouchedByOther a.token (UsesCall a) (since mid new)). inl (touched_later a.token (UsesCall a) old mid new (first t) (second t) touched))
-      (λ (rose : Rose f1 f2). inr (rose_over rose))
-      (c (go t) (orderly_later old mid new (first t) (second t) a.root orderly))
-
-  all_over : (ws : List Warning) → AreCaused ws a tells' f1 f2 mid new → AreCaused ws a tells f0 f2 old new
-  unfolding AreCaused
-  all_over [] caused = tt
-  all_over (w ∷ ws) caused = ((caused.0.0, caused.0.1, caused_over w.kind caused.0.2), all_over ws caused.1)
 
 -- ---- one memory, by its parts
 
@@ -190,37 +174,94 @@ named_memory x file location m token e named g is = memory_same x location m tok
 
 -- ---- the command
 
-module _ (w : Course) (file location : PathView) (memory : Memory) (at : memory.location ≡ location) (named : module_name_of file ≡ Some memory.«module») (by : memory.token ≡ w.token) (bytes name args : List ℕ) (mid : History) where
+-- the parts of a call: what was read of the module's file, and then what the function came to
+pub record Parts (v : Stretch) (mid : FolderView) (file location : PathView) (memory : Memory) (bytes : List ℕ) : Type 0 where
+  pub keeps : FolderKeeps v.folder mid
+  pub keeps' : FolderKeeps mid v.folder'
+  pub waits : v.folder.told → Waits v.folder mid
+  pub second : mid.told → GoesOn mid v.folder'
+  pub reads : v.folder.told → ReadFrom file bytes v.folder v.folder'
+  pub located : memory.location ≡ location
+  pub named : module_name_of file ≡ Some memory.«module»
+  pub by : memory.token ≡ v.folder.token
+
+-- the part after the reading
+abbrev pub after_reading : Stretch → (mid : FolderView) → Stretch
+after_reading v mid = stretch v.means v.calls v.calls' mid v.folder' v.host v.host'
+
+module _ (v : Stretch) (mid : FolderView) (file location : PathView) (memory : Memory) (bytes : List ℕ) (parts : Parts v mid file location memory bytes) where
+  pub first : v.folder.told → GoesOn v.folder mid
+  first t = goes_waits v.folder mid parts.keeps.token (parts.waits t)
+
+  pub next : v.folder.told → GoesOn mid v.folder'
+  next t = parts.second (parts.keeps.told t)
+
+  rose_over : Rose mid.faults v.folder'.faults → Rose v.folder.faults v.folder'.faults
+  rose_over rose = let l = parts.keeps.later in omega (arith, l, rose)
+
+  module _ (a : Asked) (mine : v.folder.token ≡ a.token) where
+    touched_over : v.folder.told → TouchedByOther a.token (UsesCall a) (moved mid v.folder') → TouchedByOther a.token (UsesCall a) (moved v.folder v.folder')
+    touched_over t touched =
+        subst (λ (u : List ℕ). TouchedByOther u (UsesCall a) (moved v.folder v.folder')) mine
+        (touched_later (UsesCall a) v.folder mid v.folder' (first t) (next t) (subst (λ (u : List ℕ). TouchedByOther u (UsesCall a) (moved mid v.folder')) (sym (parts.keeps.token ∙ mine)) touched))
+
+    caused_over : (k : WarnKind) → IsCaused k a mid v.folder' → IsCaused k a v.folder v.folder'
+    caused_over LoadFault c = rose_over c
+    caused_over StoreFault c = rose_over c
+    caused_over NotMine c = λ t. opened_later v.folder mid v.folder' (first t) (next t) (output_asked a) _ (c (parts.keeps.told t))
+    caused_over Damaged c = (
+      λ t. opened_later v.folder mid v.folder' (first t) (next t) (output_asked a) _ (c.0 (parts.keeps.told t)),
+      λ t orderly. c.1 (parts.keeps.told t) (orderly_later v.folder mid v.folder' (first t) (next t) a.root orderly),
+    )
+    caused_over Skipped c = λ t orderly.
+        ⊎_elim
+        (λ (touched : TouchedByOther a.token (UsesCall a) (moved mid v.folder')). inl (touched_over t touched))
+        (λ (rose : Rose mid.faults v.folder'.faults). inr (rose_over rose))
+        (c (parts.keeps.told t) (orderly_later v.folder mid v.folder' (first t) (next t) a.root orderly))
+
+    pub all_over : (ws : List Warning) → AreCaused ws a mid v.folder' → AreCaused ws a v.folder v.folder'
+    unfolding AreCaused
+    all_over [] caused = tt
+    all_over (w ∷ ws) caused = ((caused.0.0, caused.0.1, caused_over w.kind caused.0.2), all_over ws caused.1)
+
   -- the lines of the warnings of the call
-  pub call_lines : (lines : List ℕ) (ended : Ended) (none items : List Warning) (f1 : ℕ) (tells' : Type 0) → none ≡ [] → (w.tells → GoesOn w.old mid) → (w.tells → GoesOn mid w.new) → (w.tells → tells') → w.faults ≤ f1 → (w.tells → ReadsFirst file bytes (now w.old) (since w.old w.new)) → (lines ≡ warning_lines memory.«module» items) ⊎ ((lines ≡ []) × (ended ≡ NoMemory))
-      → CallWarns w.code w.line memory bytes name args tells' f1 w.faults' mid w.new none items → (m : List ℕ) → module_name_of file ≡ Some m → (ws : List Warning) × (lines ≡ warning_lines m ws) × AreOfCall w file (memory_at location m w.token) name args ws
-  call_lines lines ended none items f1 tells' empty first second go later reads (inr silent) warns m is = ([], silent.0, inl refl)
-  call_lines lines ended none items f1 tells' empty first second go later reads (inl said) warns m is =
-      let same = named_memory memory file location m w.token at named by is in
-      let added : items ≡ warns.0 = warns.1 ∙ ap (λ (l : List Warning). l ++ warns.0) empty in
-      (items, said ∙ ap (λ (x : Memory). warning_lines x.«module» items) same, subst (λ (x : Memory). AreOfCall w file x name args items) same (of_call warns.0 added warns.2))
+  pub call_lines : (name args lines : List ℕ) (ended : Ended) (none items : List Warning) → none ≡ [] → (lines ≡ warning_lines memory.«module» items) ⊎ ((lines ≡ []) × (ended ≡ NoMemory)) → CallWarns v.means memory bytes name args mid v.folder' none items → CallSays file location name args v lines
+  call_lines name args lines ended none items empty (inr silent) warns m is = ([], silent.0, inl refl)
+  call_lines name args lines ended none items empty (inl said) warns m is =
+      let same = named_memory memory file location m v.folder.token parts.located parts.named parts.by is in
+      let added : items ≡ warns.0 = warns.1 ∙ ap (λ (l : List Warning). l ++ warns.0) empty in (
+        items,
+        said ∙ ap (λ (x : Memory). warning_lines x.«module» items) same,
+        subst (λ (x : Memory). AreOfCall v.means file x name args v.folder v.folder' items) same (of_call warns.0 added warns.2),
+      )
     where
-      of_call : (added : List Warning) → items ≡ added → (added ≡ []) ⊎ ((q : Asks w.code bytes name args) × AreCaused added (asked_by w.code w.line memory bytes name args q) tells' f1 w.faults' mid w.new) → AreOfCall w file memory name args items
+      of_call : (added : List Warning) → items ≡ added → (added ≡ []) ⊎ ((q : Asks v.means bytes name args) × AreCaused added (asked_by v.means memory bytes name args q) mid v.folder') → AreOfCall v.means file memory name args v.folder v.folder' items
       of_call added e (inl none) = inl (e ∙ none)
       of_call added e (inr h) =
-          inr (
-            bytes,
-            reads,
-            h.0,
-            subst (λ (l : List Warning). AreCaused l (asked_by w.code w.line memory bytes name args h.0) w.tells w.faults w.faults' w.old w.new) (sym e)
-                (all_over (asked_by w.code w.line memory bytes name args h.0) w.old mid w.new w.tells tells' first second go w.faults f1 w.faults' later added h.1),
-          )
+          let a = asked_by v.means memory bytes name args h.0 in
+          inr (bytes, parts.reads, h.0, subst (λ (l : List Warning). AreCaused l a v.folder v.folder') (sym e) (all_over a (sym parts.by) added h.1))
 
   -- what a lone call left
-  pub call_leaves : (answer : Answers) (clock : Type 0) (moments : List ℕ) (calls calls' : ℕ) (c : Computed) → w.tells → Waits w.token w.old mid → GoesOn w.old mid → GoesOn mid w.new → (f1 : ℕ) → w.faults ≤ f1 → ReadsFirst file bytes (now w.old) (since w.old w.new)
-      → (IsLone w.token (since mid w.new) → IsSound (root_of memory.location) answer (now mid) → (Rose f1 w.faults' → ⊥) → ComputedAt c (LeavesCalled w.code w.line answer memory bytes name args (now mid) (now w.new) clock moments calls calls'))
-      → (m : List ℕ) → module_name_of file ≡ Some m → IsLone w.token (since w.old w.new) → IsSound (root_of location) answer (now w.old) → (Rose w.faults w.faults' → ⊥)
-      → ComputedAt c (LeavesRead w answer file (memory_at location m w.token) name args clock moments calls calls')
-  call_leaves answer clock moments calls calls' c told waits first second f1 later reads leaves m is lone sound rose =
-      let same = named_memory memory file location m w.token at named by is in
-      let parts = lone_parts w.token w.old mid w.new first second lone in
-      let still : now mid ≡ now w.old = waits_alone w.token w.old mid waits parts.0 in
-      let sound' = subst (λ (s : State). IsSound (root_of memory.location) answer s) (sym still) (subst (λ (p : PathView). IsSound (root_of p) answer (now w.old)) (sym at) sound) in
+  pub call_leaves : (name args : List ℕ) (c : Computed) → (mid.told → IsLone mid.token (moved mid v.folder') → IsSound (root_of memory.location) v.means.answer (state mid) → (Rose mid.faults v.folder'.faults → ⊥) → ComputedAt c (LeavesCalled memory bytes name args (after_reading v mid)))
+      → CallLeaves file location name args v (ComputedAt c)
+  call_leaves name args c leaves told m is lone sound rose =
+      let same = named_memory memory file location m v.folder.token parts.located parts.named parts.by is in
+      let each = lone_parts v.folder mid v.folder' (first told) (next told) lone in
+      let still : state mid ≡ state v.folder = waits_alone v.folder mid (parts.waits told) each.0 in
+      let sound' =
+      subst (λ (s : State). IsSound (root_of memory.location) v.means.answer s) (sym still) (subst (λ (p : PathView). IsSound (root_of p) v.means.answer (state v.folder)) (sym parts.located) sound) in
       computed_map c _ _
-      (λ n h. (bytes, reads, subst (λ (x : Memory). LeavesCalled w.code w.line answer x bytes name args (now w.old) (now w.new) clock moments calls calls' n) same (subst (λ (s : State). LeavesCalled w.code w.line answer memory bytes name args s (now w.new) clock moments calls calls' n) still h)))
-      (leaves parts.1 sound' (λ r. rose (omega (arith, later, r))))
+      (λ n h. (bytes, parts.reads told, subst (λ (x : Memory). LeavesCalled x bytes name args v n) same (h.0, leaves_over still (asked_by v.means memory bytes name args h.0) n h.1)))
+      (leaves (parts.keeps.told told) each.1 sound' (λ r. rose (rose_over r)))
+    where
+      leaves_over : state mid ≡ state v.folder → (a : Asked) (n : ℕ) → LeavesAsked a (after_reading v mid) n → LeavesAsked a v n
+      leaves_over still a n h = record {
+        result = h.result;
+        status = h.status;
+        answers = h.answers;
+        counts = h.counts;
+        duration = h.duration;
+        moment = h.moment;
+        leaves = subst (λ (s : State). LeavesNext h.result a h.duration h.moment s (state v.folder')) still h.leaves;
+        timed = h.timed;
+      }

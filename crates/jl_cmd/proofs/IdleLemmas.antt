@@ -1,7 +1,9 @@
 -- What a run that stops before its first move leaves.
-use Rattle.std.proofs.Common.{◌≡◌, ◌≢◌, ℕ, List, [], refl, sym, ap, subst, inl, inr, arith}
-use Rattle.jl_folder.specs.State.{History, since}
+use Rattle.std.proofs.Common.{◌≡◌, ◌≢◌, ℕ, List, [], append-nil, ◌⊎◌, refl, sym, ap, subst, inl, inr, arith}
+use Rattle.jl_folder.specs.declared.moves.Move.{Move}
+use Rattle.jl_folder.specs.Views.{FolderView, moved}
 use Rattle.jl_folder.specs.Calls.{Waits}
+use Rattle.jl_streams.specs.Views.{SinkView}
 use Rattle.jl_rely.specs.Steps.{OwnMoves}
 use Rattle.jl_rely.specs.Claims.{Silent}
 use Rattle.jl_rely.proofs.Since.{since_went, went_none}
@@ -13,10 +15,11 @@ use Rattle.jl_cmd.specs.declared.computed.Computed.{Computed}
 use Rattle.jl_cmd.specs.declared.computed.Computed.TheVariants as computed
 use Rattle.jl_cmd.specs.declared.ended.Ended.{Ended}
 use Rattle.jl_cmd.specs.declared.ended.Ended.TheVariants.{Done, Failed, Usage, Refused, ReadFault, WriteFault, NoMemory, NoModule, FolderFault}
+use Rattle.jl_cmd.specs.Caches.{MakesNone}
 use Rattle.jl_cmd.specs.Clears.{EndsClearing}
-use Rattle.jl_cmd.specs.Endings.{Scene, status_of}
+use Rattle.jl_cmd.specs.Endings.{status_of}
 use Rattle.jl_cmd.specs.Following.{EndsTracked}
-use Rattle.jl_cmd.specs.Promises.{IsUncalled}
+use Rattle.jl_cmd.specs.Uncalled.{IsUncalled}
 use Rattle.jl_cmd.specs.Reports.{EndsReducing}
 use Rattle.jl_cmd.specs.Run.{IsPrinted, IsFailed, IsRefusal, WritesWarned}
 use Rattle.jl_cmd.proofs.EndingLemmas.{none_of_five}
@@ -47,56 +50,84 @@ memory_may_call : (e : Ended) → e ≡ NoMemory → IsUncalled (status_of e) �
 memory_may_call e is h = may_call 8 (λ e. omega arith) (λ e. omega arith) (λ e. omega arith) (λ e. omega arith) (λ e. omega arith) (subst (λ (e' : Ended). IsUncalled (status_of e')) is h)
 
 -- a command that computed something and ended so that none was called was refused
-pub written_refusal : (c : Computed) (e : Ended) (tells : Type 0) (f f' : ℕ) (w w' : List ℕ) → WritesWarned c e tells f f' w w' → IsUncalled (status_of e) → IsRefusal c
-written_refusal c e tells f f' w w' (inr lost) h = absurd (memory_may_call e lost.0 h)
-written_refusal (computed.Printed t) Done tells f f' w w' (inl x) h = absurd (done_may_call Done refl h)
-written_refusal (computed.Printed t) WriteFault tells f f' w w' (inl x) h = absurd (write_may_call h)
-written_refusal (computed.Printed t) (Failed u) tells f f' w w' (inl x) h = absurd x
-written_refusal (computed.Printed t) Usage tells f f' w w' (inl x) h = absurd x
-written_refusal (computed.Printed t) (Refused u) tells f f' w w' (inl x) h = absurd x
-written_refusal (computed.Printed t) ReadFault tells f f' w w' (inl x) h = absurd x
-written_refusal (computed.Printed t) NoMemory tells f f' w w' (inl x) h = absurd x
-written_refusal (computed.Printed t) NoModule tells f f' w w' (inl x) h = absurd x
-written_refusal (computed.Printed t) FolderFault tells f f' w w' (inl x) h = absurd x
-written_refusal (computed.Failed t) e tells f f' w w' (inl x) h =
+pub written_refusal : (c : Computed) (e : Ended) (out out' : SinkView) → WritesWarned c e out out' → IsUncalled (status_of e) → IsRefusal c
+written_refusal c e out out' (inr lost) h = absurd (memory_may_call e lost.0 h)
+written_refusal (computed.Printed t) Done out out' (inl x) h = absurd (done_may_call Done refl h)
+written_refusal (computed.Printed t) WriteFault out out' (inl x) h = absurd (write_may_call h)
+written_refusal (computed.Printed t) (Failed u) out out' (inl x) h = absurd x
+written_refusal (computed.Printed t) Usage out out' (inl x) h = absurd x
+written_refusal (computed.Printed t) (Refused u) out out' (inl x) h = absurd x
+written_refusal (computed.Printed t) ReadFault out out' (inl x) h = absurd x
+written_refusal (computed.Printed t) NoMemory out out' (inl x) h = absurd x
+written_refusal (computed.Printed t) NoModule out out' (inl x) h = absurd x
+written_refusal (computed.Printed t) FolderFault out out' (inl x) h = absurd x
+written_refusal (computed.Failed t) e out out' (inl x) h =
     absurd (may_call 1 (λ e. omega arith) (λ e. omega arith) (λ e. omega arith) (λ e. omega arith) (λ e. omega arith) (subst (λ (e' : Ended). IsUncalled (status_of e')) x.0 h))
-written_refusal (computed.Refused t) e tells f f' w w' (inl x) h = tt
-written_refusal computed.NoMemory e tells f f' w w' (inl x) h = absurd (memory_may_call e x.0 h)
+written_refusal (computed.Refused t) e out out' (inl x) h = tt
+written_refusal computed.NoMemory e out out' (inl x) h = absurd (memory_may_call e x.0 h)
+
+-- what was written ends neither for want of a module nor by a fault of the folder
+pub written_read : (c : Computed) (e : Ended) (out out' : SinkView) → WritesWarned c e out out' → (e ≡ NoModule) ⊎ (e ≡ FolderFault) → ⊥
+written_read c e out out' writes (inl is) = no_module c out out' (subst (λ (k : Ended). WritesWarned c k out out') is writes)
+  where
+    no_module : (c : Computed) (out out' : SinkView) → WritesWarned c NoModule out out' → ⊥
+    no_module c out out' (inr lost) = let n : 9 ≡ 8 = ap status_of lost.0 in omega (arith, n)
+    no_module (computed.Printed t) out out' (inl x) = x
+    no_module (computed.Failed t) out out' (inl x) = let n : 9 ≡ 1 = ap status_of x.0 in omega (arith, n)
+    no_module (computed.Refused t) out out' (inl x) = let n : 9 ≡ 3 = ap status_of x.0 in omega (arith, n)
+    no_module computed.NoMemory out out' (inl x) = let n : 9 ≡ 8 = ap status_of x.0 in omega (arith, n)
+written_read c e out out' writes (inr is) = no_fault c out out' (subst (λ (k : Ended). WritesWarned c k out out') is writes)
+  where
+    no_fault : (c : Computed) (out out' : SinkView) → WritesWarned c FolderFault out out' → ⊥
+    no_fault c out out' (inr lost) = let n : 10 ≡ 8 = ap status_of lost.0 in omega (arith, n)
+    no_fault (computed.Printed t) out out' (inl x) = x
+    no_fault (computed.Failed t) out out' (inl x) = let n : 10 ≡ 1 = ap status_of x.0 in omega (arith, n)
+    no_fault (computed.Refused t) out out' (inl x) = let n : 10 ≡ 3 = ap status_of x.0 in omega (arith, n)
+    no_fault computed.NoMemory out out' (inl x) = let n : 10 ≡ 8 = ap status_of x.0 in omega (arith, n)
 
 -- while others move, no own move is made
-pub silent_waits : (token : List ℕ) (old new : History) → Waits token old new → OwnMoves token Silent (since old new)
-silent_waits token old new waits =
-    subst (OwnMoves token Silent) (sym (since_went old new waits.others (went_waits token old new waits))) (foreign_own token Silent waits.others waits.foreign)
+pub own_waits : (Kinds : Move → Type 0) (old new : FolderView) → Waits old new → OwnMoves old.token Kinds (moved old new)
+own_waits Kinds old new waits = subst (OwnMoves old.token Kinds) (sym (since_went old new waits.others (went_waits old new waits))) (foreign_own old.token Kinds waits.others waits.foreign)
 
--- nor where nothing is done
-pub silent_none : (token : List ℕ) (h : History) → OwnMoves token Silent (since h h)
+pub silent_waits : (old new : FolderView) → Waits old new → MakesNone old new
+silent_waits old new waits = own_waits Silent old new waits
+
+-- where nothing is done nobody moves
+pub waits_none : (v : FolderView) → Waits v v
+waits_none v = record { others = []; foreign = tt; start = refl; trace = sym (append-nil v.history.trace); lawful = tt }
+
+-- nor where nothing is done, a move of any kinds
+pub own_none : (Kinds : Move → Type 0) (v : FolderView) → OwnMoves v.token Kinds (moved v v)
 unfolding OwnMoves
-silent_none token h = subst (OwnMoves token Silent) (sym (since_went h h [] (went_none h))) tt
+own_none Kinds v = subst (OwnMoves v.token Kinds) (sym (since_went v v [] (went_none v))) tt
+
+pub silent_none : (v : FolderView) → MakesNone v v
+silent_none v = own_none Silent v
 
 -- ---- the endings of the commands that take away
 
 -- at a status at which none was called a clearing or a reducing had a fault of the folder, and the tracker too much input or a fault of the input
-pub clear_moves : (e : Ended) (faults faults' : ℕ) → EndsClearing e faults faults' → IsUncalled (status_of e) → status_of e ≢ 10 → ⊥
-clear_moves Done faults faults' ends h other = done_may_call Done refl h
-clear_moves FolderFault faults faults' ends h other = other refl
-clear_moves NoMemory faults faults' ends h other = memory_may_call NoMemory refl h
-clear_moves (Failed t) faults faults' ends h other = ends
-clear_moves Usage faults faults' ends h other = ends
-clear_moves (Refused t) faults faults' ends h other = ends
-clear_moves ReadFault faults faults' ends h other = ends
-clear_moves WriteFault faults faults' ends h other = ends
-clear_moves NoModule faults faults' ends h other = ends
+pub clear_moves : (e : Ended) (old new : FolderView) → EndsClearing e old new → IsUncalled (status_of e) → status_of e ≢ 10 → ⊥
+clear_moves Done old new ends h other = done_may_call Done refl h
+clear_moves FolderFault old new ends h other = other refl
+clear_moves NoMemory old new ends h other = memory_may_call NoMemory refl h
+clear_moves (Failed t) old new ends h other = ends
+clear_moves Usage old new ends h other = ends
+clear_moves (Refused t) old new ends h other = ends
+clear_moves ReadFault old new ends h other = ends
+clear_moves WriteFault old new ends h other = ends
+clear_moves NoModule old new ends h other = ends
 
-pub reduce_moves : (e : Ended) (Reported : ℕ → ℕ → Type 0) (tells : Type 0) (x : Scene) → EndsReducing e Reported tells x → IsUncalled (status_of e) → status_of e ≢ 10 → ⊥
-reduce_moves Done Reported tells x ends h other = done_may_call Done refl h
-reduce_moves WriteFault Reported tells x ends h other = write_may_call h
-reduce_moves FolderFault Reported tells x ends h other = other refl
-reduce_moves NoMemory Reported tells x ends h other = memory_may_call NoMemory refl h
-reduce_moves (Failed t) Reported tells x ends h other = ends
-reduce_moves Usage Reported tells x ends h other = ends
-reduce_moves (Refused t) Reported tells x ends h other = ends
-reduce_moves ReadFault Reported tells x ends h other = ends
-reduce_moves NoModule Reported tells x ends h other = ends
+pub reduce_moves : (e : Ended) (Reported : ℕ → ℕ → Type 0) (folder folder' : FolderView) (out out' : SinkView) → EndsReducing e Reported folder folder' out out' → IsUncalled (status_of e) → status_of e ≢ 10 → ⊥
+reduce_moves Done Reported folder folder' out out' ends h other = done_may_call Done refl h
+reduce_moves WriteFault Reported folder folder' out out' ends h other = write_may_call h
+reduce_moves FolderFault Reported folder folder' out out' ends h other = other refl
+reduce_moves NoMemory Reported folder folder' out out' ends h other = memory_may_call NoMemory refl h
+reduce_moves (Failed t) Reported folder folder' out out' ends h other = ends
+reduce_moves Usage Reported folder folder' out out' ends h other = ends
+reduce_moves (Refused t) Reported folder folder' out out' ends h other = ends
+reduce_moves ReadFault Reported folder folder' out out' ends h other = ends
+reduce_moves NoModule Reported folder folder' out out' ends h other = ends
 
 pub tracker_moves : (t : Tracked) (e : Ended) → EndsTracked t e → IsUncalled (status_of e) → status_of e ≢ 3 → status_of e ≢ 5 → ⊥
 tracker_moves tracked.Ended e ends h refused fault = done_may_call e ends h

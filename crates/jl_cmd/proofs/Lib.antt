@@ -1,5 +1,6 @@
 pub mod ArgumentLemmas
 pub mod CacheLemmas
+pub mod CallEnds
 pub mod CallingLemmas
 pub mod ClearEnds
 pub mod ClearLemmas
@@ -7,7 +8,9 @@ pub mod ComingLemmas
 pub mod EndingLemmas
 pub mod IdleLemmas
 pub mod MadeAnswers
+pub mod RanLemmas
 pub mod ReduceEnds
+pub mod ReportLemmas
+pub mod RunsLemmas
 pub mod TrackerEnds
 pub mod TrackerMoves
-pub mod ReportLemmas

@@ -1,30 +1,31 @@
 -- How a run of the tracker ends.
-use Rattle.std.proofs.Common.{◌≡◌, ◌∙◌, ◌⊎◌, inl, inr, ℕ, ◌+◌, ◌^◌, ◌<◌, ◌≤◌, List, [], ◌∷◌, ◌++◌, length, take, Bool, true, false, ◌||◌, cond, if◌then◌else◌, Option, None, Some, refl, sym, ap, subst, arith, append-nil, length-append, true≢false}
+use Rattle.std.proofs.Common.{◌≡◌, ◌∙◌, ◌⊎◌, inl, inr, ℕ, ◌+◌, ◌<◌, ◌≤◌, List, [], ◌∷◌, ◌++◌, length, take, Bool, true, false, ◌||◌, cond, if◌then◌else◌, Option, None, Some, refl, sym, ap, subst, arith, append-nil, length-append, true≢false}
 use Rattle.std.proofs.lemmas.List.{append_assoc}
 use Rattle.std.proofs.lemmas.Bool.{lt-ltb, le-ltb}
 use Rattle.std.proofs.Math.Seq.{take-append_seam}
 use Rattle.jl_text.specs.Counts.{Rose}
-use Rattle.jl_value.specs.declared.library.ModuleFault.{ModuleFault}
-use Rattle.jl_value.specs.Tree.{Tree}
-use Rattle.jl_value.specs.Library.{Answer}
-use Rattle.jl_folder.specs.State.{History}
+use Rattle.jl_text.specs.declared.limits.TheConstants.{MOST_INPUT_BYTES}
+use Rattle.jl_folder.specs.Views.{FolderView}
+use Rattle.jl_streams.specs.Views.{SourceView, SinkView, HostView, SinkKeeps}
 use Rattle.jl_lines.specs.Lines.{is_newline, has_newline, lines_of, put_before}
 use Rattle.jl_tracker.specs.declared.following.Tracked.{Tracked}
 use Rattle.jl_tracker.specs.declared.following.Tracked.TheVariants as tracked
 use Rattle.jl_tracker.specs.TrackerLines.{LineView}
-use Rattle.jl_tracker.specs.Effects.{Effect, AreReadings}
-use Rattle.jl_tracker.specs.Plays.{Stage, stage, Wrote, Plays, CutFirst, Stops}
+use Rattle.jl_tracker.specs.Effects.{Effect, AreReadings, text_of}
+use Rattle.jl_tracker.specs.Stages.{Stage, SinkPoint, sink_point, Point, point, stage}
+use Rattle.jl_tracker.specs.Plays.{Wrote, PlaysAt, CutFirst, StopsAt}
 use Rattle.jl_tracker.specs.Tracking.{EndsLines, Seen, Tracks, TracksMuch}
 use Rattle.jl_cmd.specs.declared.ended.Ended.{Ended}
 use Rattle.jl_cmd.specs.declared.ended.Ended.TheVariants.{ReadFault, NoMemory}
 use Rattle.jl_cmd.specs.Commands.{Command, call, hash, clear as clears, reduce_size, tracker}
-use Rattle.jl_cmd.specs.Output.{newlines, refuses_input, tracker_output, output_of, AreReading}
-use Rattle.jl_cmd.specs.Endings.{Scene, Tells, RunEnds, status_of, last_text}
+use Rattle.jl_cmd.specs.Course.{Meanings, Course, course, IsClear}
+use Rattle.jl_cmd.specs.Output.{newlines, refuses_input, tracker_output, AreReading}
+use Rattle.jl_cmd.specs.Endings.{RunEnds, WritesNothing, status_of, last_text}
 use Rattle.jl_cmd.specs.Following.{EndsTracked, Follows, GivenFollows, GivenTracks}
-use Rattle.jl_cmd.specs.Calling.{Course}
+use Rattle.jl_cmd.specs.Reporting.{sink_at}
 use Rattle.jl_cmd.specs.Saying.{GivenLines, SaidBy}
 use Rattle.jl_cmd.specs.Statuses as status
-use Rattle.jl_cmd.proofs.TrackerMoves.{tracks_nothing}
+use Rattle.jl_cmd.proofs.TrackerMoves.{tracks_nothing, asks_nothing}
 
 -- ---- the number of the line that is read
 
@@ -86,131 +87,149 @@ first_newlines lines left rest more byte m s none much =
 
 -- ---- the output
 
-few_output : (input : List ℕ) → length input ≤ 2 ^ 40 → tracker_output input ≡ record { bytes = []; status = status.done; text = [] }
+few_output : (input : List ℕ) → length input ≤ MOST_INPUT_BYTES → tracker_output input ≡ record { bytes = []; status = status.done; text = [] }
 unfolding tracker_output
-few_output input few = ap (λ (b : Bool). if b then refuses_input (1 + newlines (take (2 ^ 40) input)) else record { bytes = []; status = status.done; text = [] }) (le-ltb (2 ^ 40) (length input) few)
+few_output input few = ap (λ (b : Bool). if b then refuses_input (1 + newlines (take MOST_INPUT_BYTES input)) else record { bytes = []; status = status.done; text = [] }) (le-ltb MOST_INPUT_BYTES (length input) few)
 
-much_output : (input : List ℕ) (n : ℕ) → 2 ^ 40 < length input → n ≡ 1 + newlines (take (2 ^ 40) input) → tracker_output input ≡ refuses_input n
+much_output : (input : List ℕ) (n : ℕ) → MOST_INPUT_BYTES < length input → n ≡ 1 + newlines (take MOST_INPUT_BYTES input) → tracker_output input ≡ refuses_input n
 unfolding tracker_output
 much_output input n much is =
-    ap (λ (b : Bool). if b then refuses_input (1 + newlines (take (2 ^ 40) input)) else record { bytes = []; status = status.done; text = [] }) (lt-ltb (2 ^ 40) (length input) much)
+    ap (λ (b : Bool). if b then refuses_input (1 + newlines (take MOST_INPUT_BYTES input)) else record { bytes = []; status = status.done; text = [] }) (lt-ltb MOST_INPUT_BYTES (length input) much)
     ∙ ap refuses_input (sym is)
 
 -- the input was too much, and this is the number of the line that was being read
-too_much : (ST FT ET : Type 0) (me left left' : List ℕ) (a b : Stage) (line : ℕ) → TracksMuch ST FT ET me left left' a b line → ST → tracker_output left ≡ refuses_input line
-too_much ST FT ET me left left' a b line t told =
+too_much : (source rest : SourceView) (a b : Stage) (line : ℕ) → TracksMuch source rest a b line → source.told → tracker_output source.left ≡ refuses_input line
+too_much source rest a b line t told =
     let seen = t.seen told in
     let much = t.much told in
-    much_output left line (omega (arith, much))
-    (t.number_is ∙ ap (λ (n : ℕ). 1 + n) (readings-length t.lines t.readings t.read ∙ sym (first_newlines t.lines left t.rest left' seen.0 (2 ^ 40) seen.1 t.none much)))
+    much_output source.left line (omega (arith, much))
+    (t.number_is ∙ ap (λ (n : ℕ). 1 + n) (readings-length t.lines t.readings t.read ∙ sym (first_newlines t.lines source.left t.open_line rest.left seen.0 MOST_INPUT_BYTES seen.1 t.none much)))
 
 -- ---- the ending
 
-module _ (code : List ℕ → List ℕ → Option (List ℕ)) (fault : List ℕ → Option ModuleFault) (answer : List ℕ → List (List ℕ × Tree) → Answer) (T : Tells) (x : Scene) where
-  ended : (ST FT ET : Type 0) (me left left' : List ℕ) (a b : Stage) (end : Tracked) (e : Ended) → (T.cache → ST) → x.written' ≡ x.written → (e ≡ ReadFault → Rose x.input_faults x.input_faults') → Tracks ST FT ET me left left' a b end → EndsTracked end e → RunEnds (output_of code fault answer left) (Some tracker) T x e
-  ended ST FT ET me left left' a b tracked.Ended e tells same rose t is =
-      subst (λ (e' : Ended). RunEnds (output_of code fault answer left) (Some tracker) T x e') (sym is)
-      ([], (λ _. tt), λ cache. let o_is = few_output left (t.few (tells cache)) in (ap (λ o. o.status) o_is, ap (λ o. o.text) o_is, λ out. same ∙ sym (append-nil x.written) ∙ ap (λ o. x.written ++ o.bytes) (sym o_is)))
-  ended ST FT ET me left left' a b tracked.ReadFault e tells same rose t is =
-      subst (λ (e' : Ended). RunEnds (output_of code fault answer left) (Some tracker) T x e') (sym is) (tt, rose is, λ _. same)
-  ended ST FT ET me left left' a b (tracked.TooMuch line) e tells same rose t (inl is) =
-      subst (λ (e' : Ended). RunEnds (output_of code fault answer left) (Some tracker) T x e') (sym is)
-      ([], (λ _. tt), ((λ cache. too_much ST FT ET me left left' a b line t (tells cache)), λ _. same))
-  ended ST FT ET me left left' a b (tracked.TooMuch line) e tells same rose t (inr is) =
-      subst (λ (e' : Ended). RunEnds (output_of code fault answer left) (Some tracker) T x e') (sym is) (λ _. same)
-  ended ST FT ET me left left' a b tracked.NoMemory e tells same rose t is =
-      subst (λ (e' : Ended). RunEnds (output_of code fault answer left) (Some tracker) T x e') (sym is) (λ _. same)
+module _ (w : Course) (a b : Stage) where
+  ended : (end : Tracked) (e : Ended) → WritesNothing w.out w.out' → (e ≡ ReadFault → Rose w.input.faults w.input'.faults) → Tracks w.input w.input' a b end → EndsTracked end e → RunEnds (Some tracker) w e
+  ended tracked.Ended e nothing rose t is =
+      subst (λ (e' : Ended). RunEnds (Some tracker) w e') (sym is)
+      ([], (λ _. tt), λ told. let o_is = few_output w.input.left (t.few told) in (ap (λ o. o.status) o_is, ap (λ o. o.text) o_is, λ out. nothing out ∙ sym (append-nil w.out.written) ∙ ap (λ o. w.out.written ++ o.bytes) (sym o_is)))
+  ended tracked.ReadFault e nothing rose t is = subst (λ (e' : Ended). RunEnds (Some tracker) w e') (sym is) (tt, rose is, nothing)
+  ended (tracked.TooMuch line) e nothing rose t (inl is) = subst (λ (e' : Ended). RunEnds (Some tracker) w e') (sym is) ([], (λ _. tt), ((λ told. too_much w.input w.input' a b line t told), nothing))
+  ended (tracked.TooMuch line) e nothing rose t (inr is) = subst (λ (e' : Ended). RunEnds (Some tracker) w e') (sym is) nothing
+  ended tracked.NoMemory e nothing rose t is = subst (λ (e' : Ended). RunEnds (Some tracker) w e') (sym is) nothing
 
-  pub follows_ends : (ST FT ET : Type 0) (me left left' : List ℕ) (a b : Stage) (e : Ended) → (T.cache → ST) → x.written' ≡ x.written → (e ≡ ReadFault → Rose x.input_faults x.input_faults') → Follows ST FT ET me left left' a b e → RunEnds (output_of code fault answer left) (Some tracker) T x e
-  follows_ends ST FT ET me left left' a b e tells same rose f = ended ST FT ET me left left' a b f.tracked e tells same rose f.tracks f.ends
+pub follows_ends : (w : Course) (err err' : SinkView) (e : Ended) → WritesNothing w.out w.out' → (e ≡ ReadFault → Rose w.input.faults w.input'.faults) → Follows w.input w.input' w.folder w.folder' err err' e → RunEnds (Some tracker) w e
+follows_ends w err err' e nothing rose f = ended w (stage w.folder err) (stage w.folder' err') f.tracked e nothing rose f.tracks f.ends
 
 -- ---- the texts
 
 -- what a part of the run said: the count of faults doesn't fall, and where it doesn't rise, bytes were written behind the others
-abbrev Says : (w w' : List ℕ) (e e' : ℕ) → Type 0
-Says w w' e e' = (e ≤ e') × ((Rose e e' → ⊥) → (said : List ℕ) × (w' ≡ w ++ said))
+abbrev Says : SinkPoint → SinkPoint → Type 0
+Says a b = (a.faults ≤ b.faults) × ((Rose a.faults b.faults → ⊥) → (said : List ℕ) × (b.written ≡ a.written ++ said))
 
-says_text : (text w w' : List ℕ) (e e' : ℕ) → Wrote text w w' e e' → Says w w' e e'
-says_text text w w' e e' (later, inl is) = (later, λ clear. (text, is))
-says_text text w w' e e' (later, inr h) = (later, λ clear. absurd (clear h.1))
+says_text : (text : List ℕ) (a b : SinkPoint) → Wrote text a b → Says a b
+says_text text a b (later, inl is) = (later, λ clear. (text, is.0))
+says_text text a b (later, inr h) = (later, λ clear. absurd (clear h.1))
 
-says_same : (w w' : List ℕ) (e e' : ℕ) → w' ≡ w → e' ≡ e → Says w w' e e'
-says_same w w' e e' w_is e_is = (omega (arith, e_is), λ clear. ([], w_is ∙ sym (append-nil w)))
+says_same : (a b : SinkPoint) → b ≡ a → Says a b
+says_same a b is = let same : b.faults ≡ a.faults = ap (λ (x : SinkPoint). x.faults) is in (omega (arith, same), λ clear. ([], ap (λ (x : SinkPoint). x.written) is ∙ sym (append-nil a.written)))
 
-says_then : (w m w' : List ℕ) (e k e' : ℕ) → Says w m e k → Says m w' k e' → Says w w' e e'
-says_then w m w' e k e' a b =
-    let first : Rose e k → Rose e e' = λ rose. omega (arith, rose, b.0) in
-    let second : Rose k e' → Rose e e' = λ rose. omega (arith, rose, a.0) in (
-      omega (arith, a.0, b.0),
+says_then : (a m b : SinkPoint) → Says a m → Says m b → Says a b
+says_then a m b x y =
+    let first : Rose a.faults m.faults → Rose a.faults b.faults = λ rose. omega (arith, rose, y.0) in
+    let second : Rose m.faults b.faults → Rose a.faults b.faults = λ rose. omega (arith, rose, x.0) in (
+      omega (arith, x.0, y.0),
       λ clear.
-          let x = a.1 (λ r. clear (first r)) in
-          let y = b.1 (λ r. clear (second r)) in
-          (x.0 ++ y.0, y.1 ∙ ap (λ (t : List ℕ). t ++ y.0) x.1 ∙ append_assoc w x.0 y.0),
+          let p = x.1 (λ r. clear (first r)) in
+          let q = y.1 (λ r. clear (second r)) in
+          (p.0 ++ q.0, q.1 ∙ ap (λ (t : List ℕ). t ++ q.0) p.1 ∙ append_assoc a.written p.0 q.0),
     )
 
-plays_says : (FT ET : Type 0) (me : List ℕ) (es : List Effect) (a b : Stage) → ET → Plays FT ET me es a b → Says a.written b.written a.errors b.errors
-plays_says FT ET me [] a b told h = says_same a.written b.written a.errors b.errors (ap (λ (x : Stage). x.written) h) (ap (λ (x : Stage). x.errors) h)
-plays_says FT ET me (e ∷ es) a b told h =
-    says_then a.written h.1.written b.written a.errors h.1.errors b.errors (says_text _ a.written h.1.written a.errors h.1.errors (h.2.text told)) (plays_says FT ET me es h.1 b told h.3)
+module _ (s : Stage) where
+  plays_says : (es : List Effect) (a b : Point) → s.err.told → PlaysAt s es a b → Says a.err b.err
+  plays_says [] a b told h = says_same a.err b.err (ap (λ (x : Point). x.err) h)
+  plays_says (e ∷ es) a b told h = says_then a.err h.1.err b.err (says_text (text_of e h.0) a.err h.1.err (h.2.text told)) (plays_says es h.1 b told h.3)
 
-cut_says : (FT : Type 0) (me : List ℕ) (es : List Effect) (a b : Stage) → CutFirst FT me es a b → Says a.written b.written a.errors b.errors
-cut_says FT me [] a b h = says_same a.written b.written a.errors b.errors (ap (λ (x : Stage). x.written) h) (ap (λ (x : Stage). x.errors) h)
-cut_says FT me (e ∷ es) a b (inl h) = says_same a.written b.written a.errors b.errors (ap (λ (x : Stage). x.written) h) (ap (λ (x : Stage). x.errors) h)
-cut_says FT me (e ∷ es) a b (inr h) = says_same a.written b.written a.errors b.errors h.written_is h.errors_is
+  cut_says : (es : List Effect) (a b : Point) → CutFirst s es a b → Says a.err b.err
+  cut_says [] a b h = says_same a.err b.err (ap (λ (x : Point). x.err) h)
+  cut_says (e ∷ es) a b (inl h) = says_same a.err b.err (ap (λ (x : Point). x.err) h)
+  cut_says (e ∷ es) a b (inr h) = says_same a.err b.err h.err_is
 
-stops_says : (FT ET : Type 0) (me : List ℕ) (es : List Effect) (a b : Stage) → ET → Stops FT ET me es a b → Says a.written b.written a.errors b.errors
-stops_says FT ET me es a b told h =
-    says_then a.written h.at.written b.written a.errors h.at.errors b.errors (plays_says FT ET me h.first a h.at told h.plays) (cut_says FT me h.rest h.at b h.cut)
+  stops_says : (es : List Effect) (a b : Point) → s.err.told → StopsAt s es a b → Says a.err b.err
+  stops_says es a b told h = says_then a.err h.mid.err b.err (plays_says h.first a h.mid told h.plays) (cut_says h.rest h.mid b h.cut)
 
-tracks_says : (ST FT ET : Type 0) (me left left' : List ℕ) (a b : Stage) (end : Tracked) → ET → Tracks ST FT ET me left left' a b end → Says a.written b.written a.errors b.errors
-tracks_says ST FT ET me left left' a b tracked.Ended told t = plays_says FT ET me _ a b told t.plays
-tracks_says ST FT ET me left left' a b tracked.ReadFault told t = plays_says FT ET me _ a b told t.plays
-tracks_says ST FT ET me left left' a b (tracked.TooMuch line) told t = plays_says FT ET me _ a b told t.plays
-tracks_says ST FT ET me left left' a b tracked.NoMemory told t = elim t.stops [ inl h ↦ stops_says FT ET me _ a b told h | inr h ↦ stops_says FT ET me _ a b told h.1 ]
+tracks_says : (source rest : SourceView) (a b : Stage) (end : Tracked) → a.err.told → Tracks source rest a b end → Says (sink_point a.err) (sink_point b.err)
+tracks_says source rest a b tracked.Ended told t = plays_says a _ (point a) (point b) told t.plays
+tracks_says source rest a b tracked.ReadFault told t = plays_says a _ (point a) (point b) told t.plays
+tracks_says source rest a b (tracked.TooMuch line) told t = plays_says a _ (point a) (point b) told t.plays
+tracks_says source rest a b tracked.NoMemory told t = elim t.stops [ inl h ↦ stops_says a _ (point a) (point b) told h | inr h ↦ stops_says a _ (point a) (point b) told h.1 ]
 
 -- what a run said before its last text
-pub run_says : (given : Option Command) (v : Course) (ST FT ET : Type 0) (me left left' : List ℕ) (a : Stage) (new : History) (faults : ℕ) (w w' lines last : List ℕ) (k k' : ℕ) (e : Ended) → ((AreReading given → ⊥) → w ≡ a.written) → GivenFollows given ST FT ET me left left' a (stage new faults w k) e → GivenLines given v lines → ET → a.errors ≤ k → k ≤ k' → (Rose a.errors k' → ⊥)
-    → ((Rose k k' → ⊥) → w' ≡ w ++ (lines ++ last)) → (said : List ℕ) × SaidBy given v said × (w' ≡ a.written ++ (said ++ last))
-run_says given v ST FT ET me left left' a new faults w w' lines last k k' e quiet follows warned told early late clear text = go given quiet follows warned
+pub run_says : (given : Option Command) (w : Course) (err mid err' : SinkView) (e : Ended) (lines : List ℕ) → ((AreReading given → ⊥) → mid ≡ err) → GivenFollows given w err mid e → GivenLines given w lines → SinkKeeps err mid → SinkKeeps mid err'
+    → (IsClear mid err' → err'.written ≡ mid.written ++ (lines ++ last_text e)) → IsClear err err' → (said : List ℕ) × SaidBy given w said × (err'.written ≡ err.written ++ (said ++ last_text e))
+run_says given w err mid err' e lines quiet follows warned early late text clear = go given quiet follows warned
   where
-    first : Rose a.errors k → Rose a.errors k'
-    first rose = omega (arith, rose, late)
+    first : Rose err.faults mid.faults → Rose err.faults err'.faults
+    first rose = let l = late.later in omega (arith, rose, l)
 
-    second : Rose k k' → Rose a.errors k'
-    second rose = omega (arith, rose, early)
+    second : Rose mid.faults err'.faults → Rose err.faults err'.faults
+    second rose = let l = early.later in omega (arith, rose, l)
 
-    whole : w' ≡ w ++ (lines ++ last)
-    whole = text (λ rose. clear (second rose))
+    whole : err'.written ≡ mid.written ++ (lines ++ last_text e)
+    whole = text (early.told clear.0, λ rose. clear.1 (second rose))
 
-    silent : w ≡ a.written → w' ≡ a.written ++ (lines ++ last)
-    silent same = whole ∙ ap (λ (t : List ℕ). t ++ (lines ++ last)) same
+    silent : mid ≡ err → err'.written ≡ err.written ++ (lines ++ last_text e)
+    silent same = whole ∙ ap (λ (v : SinkView). v.written ++ (lines ++ last_text e)) same
 
-    go : (given : Option Command) → ((AreReading given → ⊥) → w ≡ a.written) → GivenFollows given ST FT ET me left left' a (stage new faults w k) e → GivenLines given v lines → (said : List ℕ) × SaidBy given v said × (w' ≡ a.written ++ (said ++ last))
+    go : (given : Option Command) → ((AreReading given → ⊥) → mid ≡ err) → GivenFollows given w err mid e → GivenLines given w lines → (said : List ℕ) × SaidBy given w said × (err'.written ≡ err.written ++ (said ++ last_text e))
     go None quiet follows warned = (lines, warned, silent (quiet (λ none. none)))
     go (Some (call file location name args)) quiet follows warned = (lines, warned, silent (quiet (λ none. none)))
     go (Some (hash args)) quiet follows warned = (lines, warned, silent (quiet (λ none. none)))
     go (Some (clears location m f key)) quiet follows warned = (lines, warned, silent (quiet (λ none. none)))
     go (Some (reduce_size location limits)) quiet follows warned = (lines, warned, silent (quiet (λ none. none)))
     go (Some tracker) quiet follows warned =
-        let s = (tracks_says ST FT ET me left left' a (stage new faults w k) follows.tracked told follows.tracks).1 (λ rose. clear (first rose)) in
-        (s.0 ++ lines, tt, whole ∙ ap (λ (t : List ℕ). t ++ (lines ++ last)) s.1 ∙ append_assoc a.written s.0 (lines ++ last) ∙ ap (λ (t : List ℕ). a.written ++ t) (sym (append_assoc s.0 lines last)))
+        let s = (tracks_says w.input w.input' (stage w.folder err) (stage w.folder' mid) follows.tracked clear.0 follows.tracks).1 (λ rose. clear.1 (first rose)) in
+        (s.0 ++ lines, tt, whole ∙ ap (λ (t : List ℕ). t ++ (lines ++ last_text e)) s.1 ∙ append_assoc err.written s.0 (lines ++ last_text e) ∙ ap (λ (t : List ℕ). err.written ++ t) (sym (append_assoc s.0 lines (last_text e))))
 
 -- ---- at want of memory for the words
 
-pub follows_nothing : (given : Option Command) (ST FT ET : Type 0) (me left : List ℕ) (a : Stage) → GivenFollows given ST FT ET me left left a a NoMemory
-follows_nothing None ST FT ET me left a = tt
-follows_nothing (Some (call file location name args)) ST FT ET me left a = tt
-follows_nothing (Some (hash args)) ST FT ET me left a = tt
-follows_nothing (Some (clears location m f key)) ST FT ET me left a = tt
-follows_nothing (Some (reduce_size location limits)) ST FT ET me left a = tt
-follows_nothing (Some tracker) ST FT ET me left a = record { tracked = tracked.NoMemory; tracks = tracks_nothing ST FT ET me left a; ends = refl }
+pub follows_nothing : (given : Option Command) (means : Meanings) (calls : ℕ) (folder : FolderView) (host : HostView) (input : SourceView) (out err : SinkView) → GivenFollows given (course means calls calls folder folder host host input input out out) err err NoMemory
+follows_nothing None means calls folder host input out err = tt
+follows_nothing (Some (call file location name args)) means calls folder host input out err = tt
+follows_nothing (Some (hash args)) means calls folder host input out err = tt
+follows_nothing (Some (clears location m f key)) means calls folder host input out err = tt
+follows_nothing (Some (reduce_size location limits)) means calls folder host input out err = tt
+follows_nothing (Some tracker) means calls folder host input out err = record { tracked = tracked.NoMemory; tracks = tracks_nothing input (stage folder err); moves = λ told. asks_nothing input folder; ends = refl }
 
 -- ---- the run, once the last text is written
 
-pub runs_tracker : (given : Option Command) (v : Course) (ST FT ET : Type 0) (me left left' : List ℕ) (a : Stage) (new : History) (faults : ℕ) (w w' : List ℕ) (lines : List ℕ) (k k' : ℕ) (e : Ended) (n : ℕ) → n ≡ status_of e → k ≤ k' → (ET → (Rose k k' → ⊥) → w' ≡ w ++ (lines ++ last_text e)) → GivenLines given v lines → GivenFollows given ST FT ET me left left' a (stage new faults w k) e → GivenTracks given ST FT ET me left left' a (stage new faults w' k') n
-runs_tracker None v ST FT ET me left left' a new faults w w' lines k k' e n is later text warned follows = tt
-runs_tracker (Some (call file location name args)) v ST FT ET me left left' a new faults w w' lines k k' e n is later text warned follows = tt
-runs_tracker (Some (hash args)) v ST FT ET me left left' a new faults w w' lines k k' e n is later text warned follows = tt
-runs_tracker (Some (clears location m f key)) v ST FT ET me left left' a new faults w w' lines k k' e n is later text warned follows = tt
-runs_tracker (Some (reduce_size location limits)) v ST FT ET me left left' a new faults w w' lines k k' e n is later text warned follows = tt
-runs_tracker (Some tracker) v ST FT ET me left left' a new faults w w' lines k k' e n is later text warned follows = record { ended = e; written = w; errors = k; follows = follows; later = later; status = is; text = λ told clear. text told clear ∙ ap (λ (t : List ℕ). w ++ (t ++ last_text e)) warned }
+-- what came about is told of the bytes and of the count alone
+tracks_as : (source rest : SourceView) (a : Stage) (folder : FolderView) (err mid : SinkView) (end : Tracked) → Tracks source rest a (stage folder mid) end → Tracks source rest a (stage folder (sink_at err (sink_point mid))) end
+tracks_as source rest a folder err mid tracked.Ended t = record { lines = t.lines; readings = t.readings; read = t.read; seen = t.seen; few = t.few; plays = t.plays }
+tracks_as source rest a folder err mid tracked.ReadFault t = record { lines = t.lines; readings = t.readings; open_line = t.open_line; read = t.read; none = t.none; seen = t.seen; plays = t.plays }
+tracks_as source rest a folder err mid (tracked.TooMuch line) t = record {
+  lines = t.lines;
+  readings = t.readings;
+  open_line = t.open_line;
+  read = t.read;
+  none = t.none;
+  seen = t.seen;
+  much = t.much;
+  number_is = t.number_is;
+  plays = t.plays;
+}
+tracks_as source rest a folder err mid tracked.NoMemory t = record { lines = t.lines; readings = t.readings; open_line = t.open_line; read = t.read; seen = t.seen; stops = t.stops }
+
+pub runs_tracker : (given : Option Command) (w : Course) (err mid err' : SinkView) (e : Ended) (lines : List ℕ) (n : ℕ) → n ≡ status_of e → SinkKeeps err mid → SinkKeeps mid err' → (IsClear mid err' → err'.written ≡ mid.written ++ (lines ++ last_text e)) → GivenLines given w lines → GivenFollows given w err mid e → GivenTracks given w err err' n
+runs_tracker None w err mid err' e lines n is early late text warned follows = tt
+runs_tracker (Some (call file location name args)) w err mid err' e lines n is early late text warned follows = tt
+runs_tracker (Some (hash args)) w err mid err' e lines n is early late text warned follows = tt
+runs_tracker (Some (clears location m f key)) w err mid err' e lines n is early late text warned follows = tt
+runs_tracker (Some (reduce_size location limits)) w err mid err' e lines n is early late text warned follows = tt
+runs_tracker (Some tracker) w err mid err' e lines n is early late text warned follows = record {
+  ended = e;
+  point = sink_point mid;
+  follows = record { tracked = follows.tracked; tracks = tracks_as w.input w.input' (stage w.folder err) w.folder' err mid follows.tracked follows.tracks; moves = follows.moves; ends = follows.ends };
+  later = late.later;
+  status = is;
+  text = λ clear. text (early.told clear.0, clear.1) ∙ ap (λ (t : List ℕ). mid.written ++ (t ++ last_text e)) warned;
+}

@@ -1,17 +1,21 @@
 -- What the command `clear` takes away, and how it ends.
-use Rattle.std.specs.Prelude.{ℕ, List, [], ◌∷◌, Option, Some, None, ⊤}
+use Rattle.std.specs.Prelude.{◌≡◌, ℕ, List, [], ◌∷◌, Option, Some, None, ⊤}
 use Rattle.hex.specs.Hex.{encode_lower}
 use Rattle.jl_text.specs.Counts.{Rose}
 use Rattle.jl_text.specs.Paths.{PathView}
 use Rattle.jl_value.specs.declared.key.Key.{Key}
-use Rattle.jl_folder.specs.State.{History, now, since}
-use Rattle.jl_rely.specs.Steps.{OwnMoves, IsLone}
+use Rattle.jl_folder.specs.Views.{FolderView, state, moved}
+use Rattle.jl_rely.specs.Steps.{OwnMoves}
 use Rattle.jl_protocol.specs.Whole.{Answers}
 use Rattle.jl_protocol.specs.Proper.{LawfulThroughout}
-use Rattle.jl_protocol.specs.Tidy.{IsTidy}
 use Rattle.jl_entry.specs.Names.{IsBelow, below, root_of}
-use Rattle.jl_clear.specs.Taking.{IsTaking, IsInside, IsTakenAway}
+use Rattle.jl_clear.specs.Cleared.{ClearsPaths}
+use Rattle.jl_clear.specs.Taking.{IsTaking, IsInside}
+use Rattle.jl_clear.specs.declared.removing.Clear.{Clear}
+use Rattle.jl_clear.specs.declared.removing.Clear.TheVariants as clear_answer
+use Rattle.jl_cmd.specs.Course.{Course}
 use Rattle.jl_cmd.specs.Commands.{Command, call, hash, clear, reduce_size, tracker}
+use Rattle.jl_cmd.specs.Endings.{status_of}
 use Rattle.jl_cmd.specs.declared.ended.Ended.{Ended}
 use Rattle.jl_cmd.specs.declared.ended.Ended.TheVariants.{Done, NoMemory, FolderFault}
 
@@ -23,23 +27,34 @@ IsCleared location (Some m) (Some f) None = IsBelow (below (root_of location) (m
 IsCleared location (Some m) (Some f) (Some k) = IsBelow (below (root_of location) (m ∷ f ∷ encode_lower k.0 ∷ []))
 
 -- it is done, or the folder's faults rose, or memory was wanting
-abbrev pub EndsClearing : Ended → (faults faults' : ℕ) → Type 0
-EndsClearing Done faults faults' = ⊤
-EndsClearing FolderFault faults faults' = Rose faults faults'
-EndsClearing NoMemory faults faults' = ⊤
-EndsClearing _ faults faults' = ⊥
+abbrev pub EndsClearing : Ended → (old new : FolderView) → Type 0
+EndsClearing Done old new = ⊤
+EndsClearing FolderFault old new = Rose old.faults new.faults
+EndsClearing NoMemory old new = ⊤
+EndsClearing _ old new = ⊥
 
 -- the run's own moves take away names of the store and its folders, of the paths that go alone, and are lawful throughout
-pub record ClearsLawfully (location : PathView) (m f : Option (List ℕ)) (key : Option Key) (answer : Answers) (token : List ℕ) (old new : History) : Type 0 where
-  pub takes : OwnMoves token (IsTaking (root_of location) (IsCleared location m f key)) (since old new)
-  pub lawful : LawfulThroughout (root_of location) answer token (now old) (since old new)
+pub record ClearsLawfully (location : PathView) (m f : Option (List ℕ)) (key : Option Key) (answer : Answers) (old new : FolderView) : Type 0 where
+  pub takes : OwnMoves old.token (IsTaking (root_of location) (IsCleared location m f key)) (moved old new)
+  pub lawful : LawfulThroughout (root_of location) answer old.token (state old) (moved old new)
 
--- a clearing that is done left nothing of what it was to clear, and all else
-abbrev pub GivenClears : Option Command → (done tells : Type 0) → (token : List ℕ) → (old new : History) → Type 0
-GivenClears None done tells token old new = ⊤
-GivenClears (Some (call file location name args)) done tells token old new = ⊤
-GivenClears (Some (hash args)) done tells token old new = ⊤
-GivenClears (Some (clear location m f key)) done tells token old new =
-    tells → done → IsLone token (since old new) → IsTidy (root_of location) (now old) → IsTakenAway (IsCleared location m f key) (now old) (now new)
-GivenClears (Some (reduce_size location limits)) done tells token old new = ⊤
-GivenClears (Some tracker) done tells token old new = ⊤
+-- what a clearing answered where the run ended so
+abbrev pub clear_of : Ended → Clear
+clear_of Done = clear_answer.Cleared
+clear_of FolderFault = clear_answer.Fault
+clear_of _ = clear_answer.NoMemory
+
+-- These paths were cleared. Where that is done, each name of the store among them was away at some state, whatever others did; and where no other
+-- moved none of them is left, from a tidy state nothing of them, and all else.
+abbrev pub Clears : (location : PathView) → (m f : Option (List ℕ)) → (key : Option Key) → Ended → (old new : FolderView) → Type 0
+Clears location m f key e old new = ClearsPaths (root_of location) (IsCleared location m f key) (clear_of e) old new
+
+-- where words give that command, the run ended so, with this status
+abbrev pub GivenClears : Option Command → Course → ℕ → Type 0
+GivenClears None w n = ⊤
+GivenClears (Some (call file location name args)) w n = ⊤
+GivenClears (Some (hash args)) w n = ⊤
+GivenClears (Some (clear location m f key)) w n =
+    (e : Ended) × (n ≡ status_of e) × EndsClearing e w.folder w.folder' × (w.folder.told → Clears location m f key e w.folder w.folder')
+GivenClears (Some (reduce_size location limits)) w n = ⊤
+GivenClears (Some tracker) w n = ⊤

@@ -1,9 +1,9 @@
 -- What a run writes and its status, where nothing fails: no fault, no want of memory.
-use Rattle.std.specs.Prelude.{ℕ, List, [], ◌∷◌, ◌++◌, length, Option, Some, None, Result, Ok, Err, if◌then◌else◌, nat_lt, codes, ◌+◌, ◌^◌, take, cond}
+use Rattle.std.specs.Prelude.{ℕ, List, [], ◌∷◌, ◌++◌, length, Option, Some, None, Result, Ok, Err, if◌then◌else◌, nat_lt, codes, ◌+◌, take, cond}
 use Rattle.std.specs.Fmt.{decimal}
 use Rattle.jl_lines.specs.Lines.{is_newline}
 use Rattle.jl_text.specs.Paths.{PathView}
-use Rattle.jl_text.specs.declared.limits.TheConstants.{MOST_TEXT_BYTES}
+use Rattle.jl_text.specs.declared.limits.TheConstants.{MOST_TEXT_BYTES, MOST_INPUT_BYTES}
 use Rattle.jl_value.specs.declared.library.TaskError.{TaskError}
 use Rattle.jl_value.specs.declared.library.ModuleFault.{ModuleFault}
 use Rattle.jl_value.specs.declared.library.ModuleFaultKind.TheVariants as module_fault
@@ -12,6 +12,7 @@ use Rattle.hex.specs.Hex.{encode_lower}
 use Rattle.jl_value.specs.Canonical.{text_of}
 use Rattle.jl_value.specs.Key.{key_of}
 use Rattle.jl_value.specs.Library.{Answer, value, error}
+use Rattle.jl_cmd.specs.Course.{Meanings, Course}
 use Rattle.jl_cmd.specs.Commands.{Command, call, hash, clear, reduce_size, tracker}
 use Rattle.jl_cmd.specs.declared.arguments.ArgumentsFault.{ArgumentsFault}
 use Rattle.jl_cmd.specs.declared.arguments.ArgumentsFault.TheVariants.{UnknownFunction}
@@ -75,8 +76,8 @@ abbrev pub module_fault_of : (List ℕ → Option ModuleFault) → List ℕ → 
 module_fault_of fault m = if nat_lt MOST_TEXT_BYTES (length m) then Some too_large else fault m
 
 -- `call`: the module's bytes, the function's name and the text of the arguments, over a library's meanings
-abbrev pub call_output : (code : List ℕ → List ℕ → Option (List ℕ)) → (List ℕ → Option ModuleFault) → (List ℕ → List (List ℕ × Tree) → Answer) → List ℕ → List ℕ → List ℕ → Output
-call_output code fault answer m name args = read_module (module_fault_of fault m) (called answer (code m name) args)
+abbrev pub call_output : Meanings → (m name args : List ℕ) → Output
+call_output means m name args = read_module (module_fault_of means.fault m) (called means.answer (means.code m name) args)
 
 -- `hash`: the key of the arguments, as 32 digits, and a newline
 abbrev pub prints_key : List (List ℕ × Tree) → Output
@@ -98,9 +99,9 @@ newlines (b ∷ bs) = cond (is_newline b) (1 + newlines bs) (newlines bs)
 abbrev pub refuses_input : ℕ → Output
 refuses_input n = record { bytes = []; status = status.refused; text = error_line (codes "line " ++ (decimal n ++ codes ": too much input")) }
 
--- `tracker`: nothing. An input of more than 2^40 bytes is refused, with the number of the line that is read when so many are taken
+-- `tracker`: nothing. An input of more bytes than are taken is refused, with the number of the line that is read when so many are taken
 unfoldable pub tracker_output : List ℕ → Output
-tracker_output input = if nat_lt (2 ^ 40) (length input) then refuses_input (1 + newlines (take (2 ^ 40) input)) else record { bytes = []; status = status.done; text = [] }
+tracker_output input = if nat_lt MOST_INPUT_BYTES (length input) then refuses_input (1 + newlines (take MOST_INPUT_BYTES input)) else record { bytes = []; status = status.done; text = [] }
 
 -- the module file of a command, where it reads one
 abbrev pub module_of : Command → Option PathView
@@ -131,10 +132,28 @@ abbrev pub AreReading : Option Command → Type 0
 AreReading None = ⊥
 AreReading (Some s) = IsReading s
 
--- what the bytes of the input, a command and the bytes of its module file give
-abbrev pub output_of : (code : List ℕ → List ℕ → Option (List ℕ)) → (List ℕ → Option ModuleFault) → (List ℕ → List (List ℕ × Tree) → Answer) → (input : List ℕ) → Command → List ℕ → Output
-output_of code fault answer input (call file location name args) m = call_output code fault answer m name args
-output_of code fault answer input (hash args) m = hash_output args
-output_of code fault answer input (clear location n f key) m = prints_nothing
-output_of code fault answer input (reduce_size location limits) m = prints_line m
-output_of code fault answer input tracker m = tracker_output input
+-- whether words give a command that uses the folder
+abbrev pub UseFolder : Option Command → Type 0
+UseFolder None = ⊥
+UseFolder (Some (call file location name args)) = Unit {0}
+UseFolder (Some (hash args)) = ⊥
+UseFolder (Some (clear location m f key)) = Unit {0}
+UseFolder (Some (reduce_size location limits)) = Unit {0}
+UseFolder (Some tracker) = Unit {0}
+
+-- whether words give a command that reads the clock
+abbrev pub UseClock : Option Command → Type 0
+UseClock None = ⊥
+UseClock (Some (call file location name args)) = Unit {0}
+UseClock (Some (hash args)) = ⊥
+UseClock (Some (clear location m f key)) = ⊥
+UseClock (Some (reduce_size location limits)) = Unit {0}
+UseClock (Some tracker) = ⊥
+
+-- what a command and the bytes of its module file give, over the meanings and the input of the run. Of `reduce-size` the bytes are its line
+abbrev pub output_of : Command → Course → List ℕ → Output
+output_of (call file location name args) w m = call_output w.means m name args
+output_of (hash args) w m = hash_output args
+output_of (clear location n f key) w m = prints_nothing
+output_of (reduce_size location limits) w m = prints_line m
+output_of tracker w m = tracker_output w.input.left

@@ -1,13 +1,18 @@
 -- What a run promises, by its exit status.
 use Rattle.std.specs.Prelude.{◌≡◌, ◌≢◌, ◌⊎◌, ℕ, List, ◌++◌, Option, Some, None, if◌then◌else◌, nat_eq, codes, ⊤}
-use Rattle.jl_text.specs.Paths.{PathView}
 use Rattle.jl_text.specs.Counts.{Rose}
 use Rattle.jl_streams.specs.Streams.{WritesPrefix}
+use Rattle.jl_streams.specs.Views.{SinkView}
 use Rattle.jl_value.specs.Library.{next_count}
 use Rattle.jl_cmd.specs.Commands.{Command, call, hash, clear, reduce_size, tracker}
-use Rattle.jl_cmd.specs.Output.{Output}
-use Rattle.jl_cmd.specs.Endings.{Scene, ReadsModule, LacksModule}
+use Rattle.jl_cmd.specs.Course.{Course, IsClear}
+use Rattle.jl_cmd.specs.Output.{module_of, output_of}
+use Rattle.jl_cmd.specs.Endings.{ReadsModule, LacksModule}
+use Rattle.jl_cmd.specs.Reports.{MadeBy}
+use Rattle.jl_cmd.specs.Run.{AreCalling}
+use Rattle.jl_cmd.specs.Saying.{SaidBy}
 use Rattle.jl_cmd.specs.Statuses as status
+use Rattle.jl_cmd.specs.Uncalled.{IsUncalled}
 use Rattle.jl_cmd.specs.Texts.{error_line}
 
 -- the statuses at which the whole output of a command stands: done, a task error, refused input
@@ -21,10 +26,6 @@ IsSilent n = (n ≡ status.usage) ⊎ ((n ≡ status.no_memory) ⊎ ((n ≡ stat
 -- every status that a run may have
 abbrev pub IsStatus : ℕ → Type 0
 IsStatus n = IsWhole n ⊎ (IsSilent n ⊎ (n ≡ status.write_fault))
-
--- the statuses at which no function was called
-abbrev pub IsUncalled : ℕ → Type 0
-IsUncalled n = (n ≡ status.usage) ⊎ ((n ≡ status.refused) ⊎ ((n ≡ status.no_module) ⊎ ((n ≡ status.folder_fault) ⊎ (n ≡ status.read_fault))))
 
 -- the statuses at which a command made no move of its own: those at which no function was called, but for those that come after moves too: a fault of
 -- the folder in clearing and reducing, too much input and a fault of the input in tracking. Without a command or a folder there are no moves at all
@@ -48,40 +49,40 @@ text_of_status n =
 
 -- the output is that of the module's bytes as this run read them, or of a line that was made so: its bytes, its status and its last text, behind
 -- what was said before
-pub record Answers (output : List ℕ → Output) (path : Option PathView) (Made : List ℕ → Type 0) (out_tells err_clear : Type 0) (x : Scene) (Said : List ℕ → Type 0) (errors errors' : List ℕ) (n : ℕ) : Type 0 where
+pub record Answers (s : Command) (w : Course) (err err' : SinkView) (n : ℕ) : Type 0 where
   pub bytes : List ℕ
-  pub reads : ReadsModule path bytes x
-  pub made : Made bytes
-  pub status : (output bytes).status ≡ n
-  pub written : out_tells → x.written' ≡ x.written ++ (output bytes).bytes
-  pub text : err_clear → (said : List ℕ) × Said said × (errors' ≡ errors ++ (said ++ (output bytes).text))
+  pub reads : ReadsModule (module_of s) bytes w.folder w.folder'
+  pub made : MadeBy s w bytes
+  pub status : (output_of s w bytes).status ≡ n
+  pub written : w.out.told → w.out'.written ≡ w.out.written ++ (output_of s w bytes).bytes
+  pub text : IsClear err err' → (said : List ℕ) × SaidBy (Some s) w said × (err'.written ≡ err.written ++ (said ++ (output_of s w bytes).text))
+
+-- a front of that output was written, and the output failed
+pub record AnswersFront (s : Command) (w : Course) : Type 0 where
+  pub bytes : List ℕ
+  pub reads : ReadsModule (module_of s) bytes w.folder w.folder'
+  pub made : MadeBy s w bytes
+  pub status : (output_of s w bytes).status ≡ status.done
+  pub front : w.out.told → WritesPrefix (output_of s w bytes).bytes w.out.written w.out'.written
 
 -- nothing of a command is refused: no state of the run lacked its module's file, and the output of what was read is no refusal
-pub record IsValid (output : List ℕ → Output) (path : Option PathView) (x : Scene) : Type 0 where
-  pub there : LacksModule path x → ⊥
-  pub taken : (bytes : List ℕ) → ReadsModule path bytes x → (output bytes).status ≢ status.refused
+pub record IsValid (s : Command) (w : Course) : Type 0 where
+  pub there : LacksModule (module_of s) w.folder w.folder' → ⊥
+  pub taken : (bytes : List ℕ) → ReadsModule (module_of s) bytes w.folder w.folder' → (output_of s w bytes).status ≢ status.refused
 
 -- no count of faults rose but that of the error stream
-pub record IsFaultless (x : Scene) : Type 0 where
-  pub folder : Rose x.folder_faults x.folder_faults' → ⊥
-  pub out : Rose x.out_faults x.out_faults' → ⊥
-  pub input : Rose x.input_faults x.input_faults' → ⊥
+pub record IsFaultless (w : Course) : Type 0 where
+  pub folder : Rose w.folder.faults w.folder'.faults → ⊥
+  pub out : Rose w.out.faults w.out'.faults → ⊥
+  pub input : Rose w.input.faults w.input'.faults → ⊥
 
 -- done, a task error, or want of memory
 abbrev pub IsComplete : ℕ → Type 0
 IsComplete n = (n ≡ status.done) ⊎ ((n ≡ status.task_error) ⊎ (n ≡ status.no_memory))
 
--- a front of that output was written, and the output failed
-pub record AnswersFront (output : List ℕ → Output) (path : Option PathView) (Made : List ℕ → Type 0) (out_tells : Type 0) (x : Scene) : Type 0 where
-  pub bytes : List ℕ
-  pub reads : ReadsModule path bytes x
-  pub made : Made bytes
-  pub status : (output bytes).status ≡ status.done
-  pub front : out_tells → WritesPrefix (output bytes).bytes x.written x.written'
-
 -- the library's count of calls: at an error of the function it rose by one, where none was called by none, and never by more
-pub record CountsCalls (calling : Type 0) (n : ℕ) (calls calls' : ℕ) : Type 0 where
-  pub failed : calling → n ≡ status.task_error → calls' ≡ next_count calls
-  pub uncalled : IsUncalled n → calls' ≡ calls
-  pub idle : (calling → ⊥) → calls' ≡ calls
-  pub most : (calls' ≡ calls) ⊎ (calls' ≡ next_count calls)
+pub record CountsCalls (given : Option Command) (w : Course) (n : ℕ) : Type 0 where
+  pub failed : AreCalling given → n ≡ status.task_error → w.calls' ≡ next_count w.calls
+  pub uncalled : IsUncalled n → w.calls' ≡ w.calls
+  pub idle : (AreCalling given → ⊥) → w.calls' ≡ w.calls
+  pub most : (w.calls' ≡ w.calls) ⊎ (w.calls' ≡ next_count w.calls)

@@ -2,40 +2,43 @@
 use Rattle.std.specs.Prelude.{◌≡◌, ◌⊎◌, ℕ, List, [], ◌++◌, Option, Some, None}
 use Rattle.jl_text.specs.Counts.{Rose}
 use Rattle.jl_streams.specs.Streams.{WritesPrefix}
+use Rattle.jl_streams.specs.Views.{SinkView}
 use Rattle.jl_value.specs.Library.{next_count}
 use Rattle.jl_cmd.specs.declared.computed.Computed.{Computed}
 use Rattle.jl_cmd.specs.declared.computed.Computed.TheVariants as computed
 use Rattle.jl_cmd.specs.declared.ended.Ended.{Ended}
 use Rattle.jl_cmd.specs.declared.ended.Ended.TheVariants.{Done, Failed, Usage, Refused, ReadFault, WriteFault, NoMemory, NoModule, FolderFault}
 use Rattle.jl_cmd.specs.Commands.{Command, call, hash, clear, reduce_size, tracker}
+use Rattle.jl_cmd.specs.Course.{Course}
 use Rattle.jl_cmd.specs.Output.{Output, IsCalling}
+use Rattle.jl_cmd.specs.Endings.{WritesNothing}
 use Rattle.jl_cmd.specs.Statuses as status
 
 -- the output that was computed; a value rests on the cache folder
-abbrev pub Computes : Output → (cache : Type 0) → Computed → Type 0
-Computes o cache (computed.Printed t) = cache → o ≡ record { bytes = t; status = status.done; text = [] }
-Computes o cache (computed.Failed t) = o ≡ record { bytes = []; status = status.task_error; text = t }
-Computes o cache (computed.Refused t) = o ≡ record { bytes = []; status = status.refused; text = t }
-Computes o cache computed.NoMemory = Unit {0}
+abbrev pub Computes : Output → (trusted : Type 0) → Computed → Type 0
+Computes o trusted (computed.Printed t) = trusted → o ≡ record { bytes = t; status = status.done; text = [] }
+Computes o trusted (computed.Failed t) = o ≡ record { bytes = []; status = status.task_error; text = t }
+Computes o trusted (computed.Refused t) = o ≡ record { bytes = []; status = status.refused; text = t }
+Computes o trusted computed.NoMemory = Unit {0}
 
 -- what was computed was written: the bytes that are to be printed, or a front of them; nothing of anything else
-abbrev pub Writes : Computed → Ended → (tells : Type 0) → (faults faults' : ℕ) → (written written' : List ℕ) → Type 0
-Writes (computed.Printed t) Done tells f f' w w' = tells → w' ≡ w ++ t
-Writes (computed.Printed t) WriteFault tells f f' w w' = Rose f f' × (tells → WritesPrefix t w w')
-Writes (computed.Printed t) (Failed u) tells f f' w w' = ⊥
-Writes (computed.Printed t) ReadFault tells f f' w w' = ⊥
-Writes (computed.Printed t) Usage tells f f' w w' = ⊥
-Writes (computed.Printed t) (Refused u) tells f f' w w' = ⊥
-Writes (computed.Printed t) NoMemory tells f f' w w' = ⊥
-Writes (computed.Printed t) NoModule tells f f' w w' = ⊥
-Writes (computed.Printed t) FolderFault tells f f' w w' = ⊥
-Writes (computed.Failed t) e tells f f' w w' = (e ≡ Failed t) × (tells → w' ≡ w)
-Writes (computed.Refused t) e tells f f' w w' = (e ≡ Refused t) × (tells → w' ≡ w)
-Writes computed.NoMemory e tells f f' w w' = (e ≡ NoMemory) × (tells → w' ≡ w)
+abbrev pub Writes : Computed → Ended → (out out' : SinkView) → Type 0
+Writes (computed.Printed t) Done out out' = out.told → out'.written ≡ out.written ++ t
+Writes (computed.Printed t) WriteFault out out' = Rose out.faults out'.faults × (out.told → WritesPrefix t out.written out'.written)
+Writes (computed.Printed t) (Failed u) out out' = ⊥
+Writes (computed.Printed t) ReadFault out out' = ⊥
+Writes (computed.Printed t) Usage out out' = ⊥
+Writes (computed.Printed t) (Refused u) out out' = ⊥
+Writes (computed.Printed t) NoMemory out out' = ⊥
+Writes (computed.Printed t) NoModule out out' = ⊥
+Writes (computed.Printed t) FolderFault out out' = ⊥
+Writes (computed.Failed t) e out out' = (e ≡ Failed t) × WritesNothing out out'
+Writes (computed.Refused t) e out out' = (e ≡ Refused t) × WritesNothing out out'
+Writes computed.NoMemory e out out' = (e ≡ NoMemory) × WritesNothing out out'
 
 -- the same, unless memory was wanting before anything was written
-abbrev pub WritesWarned : Computed → Ended → (tells : Type 0) → (faults faults' : ℕ) → (written written' : List ℕ) → Type 0
-WritesWarned c e tells f f' w w' = Writes c e tells f f' w w' ⊎ ((e ≡ NoMemory) × (tells → w' ≡ w))
+abbrev pub WritesWarned : Computed → Ended → (out out' : SinkView) → Type 0
+WritesWarned c e out out' = Writes c e out out' ⊎ ((e ≡ NoMemory) × WritesNothing out out')
 
 -- the library's count: it rises by one where the function was called, and not where its value was found
 abbrev pub Counts : Computed → ℕ → ℕ → Type 0
@@ -93,9 +96,9 @@ CommandCalls (reduce_size location limits) e old new = new ≡ old
 CommandCalls tracker e old new = new ≡ old
 
 -- and of words
-abbrev pub GivenCalls : Option Command → Ended → ℕ → ℕ → Type 0
-GivenCalls None e old new = new ≡ old
-GivenCalls (Some s) e old new = CommandCalls s e old new
+abbrev pub GivenCalls : Option Command → Course → Ended → Type 0
+GivenCalls None w e = w.calls' ≡ w.calls
+GivenCalls (Some s) w e = CommandCalls s e w.calls w.calls'
 
 -- the words give the settings of a command that calls a function
 abbrev pub AreCalling : Option Command → Type 0

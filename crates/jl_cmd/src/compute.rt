@@ -1,23 +1,23 @@
 // Computes what a call comes to, over the cache folder.
-ghost use Rattle.std.specs.Prelude.{◌≡◌, ◌≤◌, ℕ, List, Some, IsSome, IsTrue, length};
+ghost use Rattle.std.specs.Prelude.{◌≡◌, ◌≤◌, ℕ, List, None, Some, IsSome, IsTrue, length};
 ghost use Rattle.jl_text.specs.Texts.{is_name};
+ghost use Rattle.jl_text.specs.Counts.{Rose};
+ghost use Rattle.jl_text.specs.declared.limits.TheConstants.{MOST_TEXT_BYTES};
 ghost use Rattle.jl_value.specs.Tree.{nesting};
 ghost use Rattle.jl_value.specs.Canonical.{text_of};
 ghost use Rattle.jl_value.specs.Key.{args_tree};
 ghost use Rattle.jl_value.specs.Proper.{IsProper as IsProperTree};
+ghost use Rattle.jl_folder.specs.Views.{FolderKeeps, state, moved};
+ghost use Rattle.jl_streams.specs.Views.{HostKeeps};
+ghost use Rattle.jl_rely.specs.Steps.{IsLone};
 ghost use Rattle.jl_entry.specs.Names.{root_of};
 ghost use Rattle.jl_protocol.specs.Tidy.{IsSound};
-ghost use Rattle.jl_protocol.specs.Proper.{IsLawful};
-ghost use Rattle.jl_rely.specs.Claims.{Called as CallsFolder};
-ghost use Rattle.jl_text.specs.Counts.{Rose};
-ghost use Rattle.jl_text.specs.declared.limits.TheConstants.{MOST_TEXT_BYTES};
-ghost use Rattle.jl_folder.specs.State.{now, since};
-ghost use Rattle.jl_rely.specs.Steps.{IsLone};
-ghost use Rattle.jl_store.specs.Next.{asked};
+ghost use Rattle.jl_store.specs.Asked.{asked};
 ghost use Rattle.jl_store.specs.Warned.{Warns};
-ghost use Rattle.jl_clear.specs.Doing.{AnyMove};
 ghost use Rattle.jl_store.specs.Trust.{IsTrusted};
-ghost use Rattle.jl_cmd.specs.Output.{call_output, called as called_of, answers};
+ghost use Rattle.jl_cmd.specs.Course.{meanings, stretch};
+ghost use Rattle.jl_cmd.specs.Output.{call_output, called as called_of, answers, module_fault_of};
+ghost use Rattle.jl_cmd.specs.Caches.{CallsLawfully, IsOfCall};
 ghost use Rattle.jl_cmd.specs.Calling.{CallWarns, LeavesAsked, LeavesCalled, ComputedAt};
 ghost use Rattle.jl_cmd.specs.Coming.{ComesAsked, ComesCalled, HasComputed};
 ghost use Rattle.jl_cmd.specs.Run.{Computes, Counts, IsRefusal};
@@ -42,42 +42,36 @@ fn answered<L: Library, F: Folder, H: Host>(
     args: &Args,
     warnings: &mut Vec<Warning>,
 ) -> Computed
-    requires token { F.token folder.old ≡ memory.now.token }
+    requires token { (F.view folder.old).token ≡ memory.now.token }
     requires module_name { IsTrue (is_name memory.now.module) }
     requires defined { IsSome (L.code (L.loaded lib.old) name.now) }
     requires module_size { length (L.loaded lib.old) ≤ MOST_TEXT_BYTES }
     requires proper { IsProperTree (args_tree args.now) }
     requires depth { nesting (args_tree args.now) ≤ 64 }
     requires size { length (text_of (args_tree args.now)) ≤ MOST_TEXT_BYTES }
-    ensures lawful { F.told folder.old
-        → CallsFolder (IsLawful (root_of memory.now.location) L.answer) (IsLawful (root_of memory.now.location) L.answer)
-        (F.token folder.old) AnyMove (IsSound (root_of memory.now.location) L.answer) (IsSound (root_of memory.now.location) L.answer)
-        (F.history folder.old) (F.history folder.new) }
+    ensures lawful { (F.view folder.old).told → CallsLawfully memory.now.location L.answer
+        (IsOfCall (root_of memory.now.location) memory.now.module name.now (F.view folder.old).token) (F.view folder.old) (F.view folder.new) }
     ensures computes { (c : List ℕ) → L.code (L.loaded lib.old) name.now ≡ Some c
         → Computes (answers (L.answer c args.now))
-        (IsTrusted (root_of memory.now.location) L.answer (F.told folder.old) (F.history folder.old) (F.history folder.new)) result }
+        (IsTrusted (root_of memory.now.location) L.answer (F.view folder.old) (F.view folder.new)) result }
     ensures calls { Counts result (L.calls lib.old) (L.calls lib.new) }
     ensures warns { (c : List ℕ) (n : ℕ) → L.code (L.loaded lib.old) name.now ≡ Some c → L.line (L.loaded lib.old) name.now ≡ n
-        → Warns warnings.old.items warnings.new.items (asked memory.now name.now c n args.now)
-        (F.told folder.old) (F.faults folder.old) (F.faults folder.new) (F.history folder.old) (F.history folder.new) }
-    ensures alone { F.told folder.old → (c : List ℕ) (n : ℕ) → L.code (L.loaded lib.old) name.now ≡ Some c
+        → Warns (asked memory.now name.now c n args.now) warnings.old.items warnings.new.items
+        (F.view folder.old) (F.view folder.new) }
+    ensures alone { (F.view folder.old).told → (c : List ℕ) (n : ℕ) → L.code (L.loaded lib.old) name.now ≡ Some c
         → L.line (L.loaded lib.old) name.now ≡ n
-        → IsLone (F.token folder.old) (since (F.history folder.old) (F.history folder.new))
-        → IsSound (root_of memory.now.location) L.answer (now (F.history folder.old))
-        → (Rose (F.faults folder.old) (F.faults folder.new) → ⊥)
-        → ComputedAt result (LeavesAsked (asked memory.now name.now c n args.now) L.answer
-        (now (F.history folder.old)) (now (F.history folder.new))
-        (H.told host.old) (H.moments host.old) (L.calls lib.old) (L.calls lib.new)) }
+        → IsLone (F.view folder.old).token (moved (F.view folder.old) (F.view folder.new))
+        → IsSound (root_of memory.now.location) L.answer (state (F.view folder.old))
+        → (Rose (F.view folder.old).faults (F.view folder.new).faults → ⊥)
+        → ComputedAt result (LeavesAsked (asked memory.now name.now c n args.now) (stretch (meanings L.code L.line L.fault L.answer) (L.calls lib.old) (L.calls lib.new)
+        (F.view folder.old) (F.view folder.new) (H.view host.old) (H.view host.new))) }
     ensures comes { (c : List ℕ) (n : ℕ) → L.code (L.loaded lib.old) name.now ≡ Some c → L.line (L.loaded lib.old) name.now ≡ n
-        → ComputedAt result (ComesAsked (asked memory.now name.now c n args.now) L.answer
-        (F.told folder.old) (F.faults folder.old) (F.faults folder.new) (F.history folder.old) (F.history folder.new)
-        (L.calls lib.old) (L.calls lib.new) (HasComputed result warnings.old.items warnings.new.items)) }
-    ensures idle { IsRefusal result → folder.new ≡ folder.old }
-    ensures told { F.told folder.old → F.told folder.new }
-    ensures token { F.token folder.new ≡ F.token folder.old }
-    ensures opens { F.opens folder.new ≡ F.opens folder.old }
-    ensures faults { F.faults folder.old ≤ F.faults folder.new }
-    ensures host { H.token host.new ≡ H.token host.old }
+        → ComputedAt result (ComesAsked (asked memory.now name.now c n args.now) (stretch (meanings L.code L.line L.fault L.answer) (L.calls lib.old) (L.calls lib.new)
+        (F.view folder.old) (F.view folder.new) (H.view host.old) (H.view host.new))
+        (HasComputed result warnings.old.items warnings.new.items)) }
+    ensures idle { IsRefusal result → (folder.new ≡ folder.old) × (host.new ≡ host.old) }
+    ensures frame { FolderKeeps (F.view folder.old) (F.view folder.new) }
+    ensures host { HostKeeps (H.view host.old) (H.view host.new) }
 {
     match call_cached(alloc, memory, lib, folder, host, name, args, warnings) {
         Cached::Hit(value) => printed(alloc, &value),
@@ -98,34 +92,28 @@ fn called<L: Library, F: Folder, H: Host>(
     args: &str,
     warnings: &mut Vec<Warning>,
 ) -> Computed
-    requires token { F.token folder.old ≡ memory.now.token }
+    requires token { (F.view folder.old).token ≡ memory.now.token }
     requires module_name { IsTrue (is_name memory.now.module) }
     requires module_size { length (L.loaded lib.old) ≤ MOST_TEXT_BYTES }
-    ensures lawful { F.told folder.old
-        → CallsFolder (IsLawful (root_of memory.now.location) L.answer) (IsLawful (root_of memory.now.location) L.answer)
-        (F.token folder.old) AnyMove (IsSound (root_of memory.now.location) L.answer) (IsSound (root_of memory.now.location) L.answer)
-        (F.history folder.old) (F.history folder.new) }
+    requires faultless { module_fault_of L.fault (L.loaded lib.old) ≡ None }
+    ensures lawful { (F.view folder.old).told → CallsLawfully memory.now.location L.answer
+        (IsOfCall (root_of memory.now.location) memory.now.module name.now (F.view folder.old).token) (F.view folder.old) (F.view folder.new) }
     ensures computes { Computes (called_of L.answer (L.code (L.loaded lib.old) name.now) args.now)
-        (IsTrusted (root_of memory.now.location) L.answer (F.told folder.old) (F.history folder.old) (F.history folder.new)) result }
+        (IsTrusted (root_of memory.now.location) L.answer (F.view folder.old) (F.view folder.new)) result }
     ensures calls { Counts result (L.calls lib.old) (L.calls lib.new) }
-    ensures warns { CallWarns L.code L.line memory.now (L.loaded lib.old) name.now args.now
-        (F.told folder.old) (F.faults folder.old) (F.faults folder.new)
-        (F.history folder.old) (F.history folder.new) warnings.old.items warnings.new.items }
-    ensures alone { F.told folder.old → IsLone (F.token folder.old) (since (F.history folder.old) (F.history folder.new))
-        → IsSound (root_of memory.now.location) L.answer (now (F.history folder.old))
-        → (Rose (F.faults folder.old) (F.faults folder.new) → ⊥)
-        → ComputedAt result (LeavesCalled L.code L.line L.answer memory.now (L.loaded lib.old) name.now args.now
-        (now (F.history folder.old)) (now (F.history folder.new))
-        (H.told host.old) (H.moments host.old) (L.calls lib.old) (L.calls lib.new)) }
-    ensures comes { ComputedAt result (ComesCalled L.code L.line L.answer memory.now (L.loaded lib.old) name.now args.now
-        (F.told folder.old) (F.faults folder.old) (F.faults folder.new) (F.history folder.old) (F.history folder.new)
-        (L.calls lib.old) (L.calls lib.new) (HasComputed result warnings.old.items warnings.new.items)) }
-    ensures idle { IsRefusal result → folder.new ≡ folder.old }
-    ensures told { F.told folder.old → F.told folder.new }
-    ensures token { F.token folder.new ≡ F.token folder.old }
-    ensures opens { F.opens folder.new ≡ F.opens folder.old }
-    ensures faults { F.faults folder.old ≤ F.faults folder.new }
-    ensures host { H.token host.new ≡ H.token host.old }
+    ensures warns { CallWarns (meanings L.code L.line L.fault L.answer) memory.now (L.loaded lib.old) name.now args.now
+        (F.view folder.old) (F.view folder.new) warnings.old.items warnings.new.items }
+    ensures alone { (F.view folder.old).told → IsLone (F.view folder.old).token (moved (F.view folder.old) (F.view folder.new))
+        → IsSound (root_of memory.now.location) L.answer (state (F.view folder.old))
+        → (Rose (F.view folder.old).faults (F.view folder.new).faults → ⊥)
+        → ComputedAt result (LeavesCalled memory.now (L.loaded lib.old) name.now args.now (stretch (meanings L.code L.line L.fault L.answer) (L.calls lib.old) (L.calls lib.new)
+        (F.view folder.old) (F.view folder.new) (H.view host.old) (H.view host.new))) }
+    ensures comes { ComputedAt result (ComesCalled memory.now (L.loaded lib.old) name.now args.now (stretch (meanings L.code L.line L.fault L.answer) (L.calls lib.old) (L.calls lib.new)
+        (F.view folder.old) (F.view folder.new) (H.view host.old) (H.view host.new))
+        (HasComputed result warnings.old.items warnings.new.items)) }
+    ensures idle { IsRefusal result → (folder.new ≡ folder.old) × (host.new ≡ host.old) }
+    ensures frame { FolderKeeps (F.view folder.old) (F.view folder.new) }
+    ensures host { HostKeeps (H.view host.old) (H.view host.new) }
 {
     if lib.code_of(name).is_none() {
         return refused_arguments(alloc, ArgumentsFault::UnknownFunction);
@@ -149,33 +137,26 @@ pub fn compute<L: Library, F: Folder, H: Host>(
     args: &str,
     warnings: &mut Vec<Warning>,
 ) -> Computed
-    requires token { F.token folder.old ≡ memory.now.token }
+    requires token { (F.view folder.old).token ≡ memory.now.token }
     requires module_name { IsTrue (is_name memory.now.module) }
-    ensures lawful { F.told folder.old
-        → CallsFolder (IsLawful (root_of memory.now.location) L.answer) (IsLawful (root_of memory.now.location) L.answer)
-        (F.token folder.old) AnyMove (IsSound (root_of memory.now.location) L.answer) (IsSound (root_of memory.now.location) L.answer)
-        (F.history folder.old) (F.history folder.new) }
-    ensures computes { Computes (call_output L.code L.fault L.answer bytes.now name.now args.now)
-        (IsTrusted (root_of memory.now.location) L.answer (F.told folder.old) (F.history folder.old) (F.history folder.new)) result }
+    ensures lawful { (F.view folder.old).told → CallsLawfully memory.now.location L.answer
+        (IsOfCall (root_of memory.now.location) memory.now.module name.now (F.view folder.old).token) (F.view folder.old) (F.view folder.new) }
+    ensures computes { Computes (call_output (meanings L.code L.line L.fault L.answer) bytes.now name.now args.now)
+        (IsTrusted (root_of memory.now.location) L.answer (F.view folder.old) (F.view folder.new)) result }
     ensures calls { Counts result (L.calls lib.old) (L.calls lib.new) }
-    ensures warns { CallWarns L.code L.line memory.now bytes.now name.now args.now
-        (F.told folder.old) (F.faults folder.old) (F.faults folder.new)
-        (F.history folder.old) (F.history folder.new) warnings.old.items warnings.new.items }
-    ensures alone { F.told folder.old → IsLone (F.token folder.old) (since (F.history folder.old) (F.history folder.new))
-        → IsSound (root_of memory.now.location) L.answer (now (F.history folder.old))
-        → (Rose (F.faults folder.old) (F.faults folder.new) → ⊥)
-        → ComputedAt result (LeavesCalled L.code L.line L.answer memory.now bytes.now name.now args.now
-        (now (F.history folder.old)) (now (F.history folder.new))
-        (H.told host.old) (H.moments host.old) (L.calls lib.old) (L.calls lib.new)) }
-    ensures comes { ComputedAt result (ComesCalled L.code L.line L.answer memory.now bytes.now name.now args.now
-        (F.told folder.old) (F.faults folder.old) (F.faults folder.new) (F.history folder.old) (F.history folder.new)
-        (L.calls lib.old) (L.calls lib.new) (HasComputed result warnings.old.items warnings.new.items)) }
-    ensures idle { IsRefusal result → folder.new ≡ folder.old }
-    ensures told { F.told folder.old → F.told folder.new }
-    ensures token { F.token folder.new ≡ F.token folder.old }
-    ensures opens { F.opens folder.new ≡ F.opens folder.old }
-    ensures faults { F.faults folder.old ≤ F.faults folder.new }
-    ensures host { H.token host.new ≡ H.token host.old }
+    ensures warns { CallWarns (meanings L.code L.line L.fault L.answer) memory.now bytes.now name.now args.now
+        (F.view folder.old) (F.view folder.new) warnings.old.items warnings.new.items }
+    ensures alone { (F.view folder.old).told → IsLone (F.view folder.old).token (moved (F.view folder.old) (F.view folder.new))
+        → IsSound (root_of memory.now.location) L.answer (state (F.view folder.old))
+        → (Rose (F.view folder.old).faults (F.view folder.new).faults → ⊥)
+        → ComputedAt result (LeavesCalled memory.now bytes.now name.now args.now (stretch (meanings L.code L.line L.fault L.answer) (L.calls lib.old) (L.calls lib.new)
+        (F.view folder.old) (F.view folder.new) (H.view host.old) (H.view host.new))) }
+    ensures comes { ComputedAt result (ComesCalled memory.now bytes.now name.now args.now (stretch (meanings L.code L.line L.fault L.answer) (L.calls lib.old) (L.calls lib.new)
+        (F.view folder.old) (F.view folder.new) (H.view host.old) (H.view host.new))
+        (HasComputed result warnings.old.items warnings.new.items)) }
+    ensures idle { IsRefusal result → (folder.new ≡ folder.old) × (host.new ≡ host.old) }
+    ensures frame { FolderKeeps (F.view folder.old) (F.view folder.new) }
+    ensures host { HostKeeps (H.view host.old) (H.view host.new) }
 {
     if bytes.len() > MOST_TEXT_BYTES {
         return refused_module(

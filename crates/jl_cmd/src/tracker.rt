@@ -1,8 +1,7 @@
 // The command `tracker`.
-ghost use Rattle.std.specs.Prelude.{◌≡◌, ◌≤◌};
-ghost use Rattle.jl_text.specs.Counts.{Faults};
-ghost use Rattle.jl_tracker.specs.Plays.{stage};
-ghost use Rattle.jl_cmd.specs.declared.ended.Ended.TheVariants.{ReadFault};
+ghost use Rattle.std.specs.Prelude.{◌≡◌};
+ghost use Rattle.jl_folder.specs.Views.{FolderKeeps};
+ghost use Rattle.jl_streams.specs.Views.{SourceAnswers, SinkKeeps};
 ghost use Rattle.jl_cmd.specs.Following.{EndsTracked, Follows};
 
 use crate::ended::Ended;
@@ -34,19 +33,10 @@ pub fn follow<S: Source, F: Folder, E: Sink>(
     folder: &mut F,
     err: &mut E,
 ) -> Ended
-    ensures follows { Follows (S.told input.old) (F.told folder.old) (E.told err.old)
-        (F.token folder.old) (S.left input.old) (S.left input.new)
-        (stage (F.history folder.old) (F.faults folder.old) (E.written err.old) (E.faults err.old))
-        (stage (F.history folder.new) (F.faults folder.new) (E.written err.new) (E.faults err.new))
-        result }
-    ensures faults { Faults (S.faults input.old) (S.faults input.new) (result ≡ ReadFault) }
-    ensures input_told { S.told input.old → S.told input.new }
-    ensures told { F.told folder.old → F.told folder.new }
-    ensures err_told { E.told err.old → E.told err.new }
-    ensures token { F.token folder.new ≡ F.token folder.old }
-    ensures opens { F.opens folder.new ≡ F.opens folder.old }
-    ensures folder_later { F.faults folder.old ≤ F.faults folder.new }
-    ensures err_later { E.faults err.old ≤ E.faults err.new }
+    ensures follows { Follows (S.view input.old) (S.view input.new) (F.view folder.old) (F.view folder.new) (E.view err.old) (E.view err.new) result }
+    ensures frame { FolderKeeps (F.view folder.old) (F.view folder.new) }
+    ensures input { SourceAnswers (result ≡ Ended.ReadFault) (S.view input.old) (S.view input.new) }
+    ensures err { SinkKeeps (E.view err.old) (E.view err.new) }
 {
     let tracked = track(alloc, input, folder, err);
     end_of(alloc, tracked)

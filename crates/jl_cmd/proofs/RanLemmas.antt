@@ -1,0 +1,376 @@
+-- What each command's own promises make of a run.
+use Rattle.std.proofs.Common.{◌≡◌, ◌∙◌, inl, inr, ℕ, ◌≤◌, List, [], ◌++◌, Option, Some, None, refl, sym, ap, subst, arith}
+use Rattle.std.specs.Prelude.{⊤}
+use Rattle.jl_text.specs.Counts.{Faults, Rose}
+use Rattle.jl_text.specs.Paths.{PathView}
+use Rattle.jl_folder.specs.Views.{FolderView, FolderAnswers, FolderKeeps, state, moved}
+use Rattle.jl_streams.specs.Moments.{moments_after}
+use Rattle.jl_streams.specs.Views.{SourceView, SinkView, HostView, SourceAnswers, SinkAnswers, SinkKeeps, HostKeeps}
+use Rattle.jl_value.specs.declared.key.Key.{Key}
+use Rattle.jl_quota.specs.declared.limits.Limits.{Limits}
+use Rattle.jl_rely.specs.Steps.{OwnMoves}
+use Rattle.jl_rely.specs.Claims.{AnyMove, Anywhere}
+use Rattle.jl_rely.proofs.Composed.{not_called}
+use Rattle.jl_rely.proofs.Since.{goes_none}
+use Rattle.jl_entry.specs.Names.{root_of}
+use Rattle.jl_protocol.specs.Proper.{IsProper, LawfulThroughout}
+use Rattle.jl_clear.specs.declared.removing.Clear.TheVariants as clear_answer
+use Rattle.jl_clear.specs.Taking.{IsTaking}
+use Rattle.jl_store.proofs.Lawfully.{lawful_none}
+use Rattle.jl_tracker.specs.declared.following.Tracked.{Tracked}
+use Rattle.jl_tracker.specs.declared.following.Tracked.TheVariants as tracked
+use Rattle.jl_evict.specs.Reducing.{IsOfEntry}
+use Rattle.jl_cmd.specs.declared.computed.Computed.{Computed}
+use Rattle.jl_cmd.specs.declared.ended.Ended.{Ended}
+use Rattle.jl_cmd.specs.declared.ended.Ended.TheVariants.{Done, Failed, Usage, Refused, ReadFault, WriteFault, NoMemory, NoModule, FolderFault}
+use Rattle.jl_cmd.specs.Commands.{Command, call, hash, clear, reduce_size, tracker}
+use Rattle.jl_cmd.specs.Course.{Meanings, Course, course, stretch_of, IsClear, Keeps}
+use Rattle.jl_cmd.specs.Output.{hash_output, call_output}
+use Rattle.jl_cmd.specs.Resting.{Trusted}
+use Rattle.jl_cmd.specs.Caches.{CallsLawfully, IsOfCall, RunsLawfully}
+use Rattle.jl_cmd.specs.Clears.{IsCleared, EndsClearing, Clears}
+use Rattle.jl_cmd.specs.Coming.{EndsWith}
+use Rattle.jl_cmd.specs.Did.{CallDid}
+use Rattle.jl_cmd.specs.Endings.{CommandEnds, Finishes, WritesNothing, RunEnds, status_of}
+use Rattle.jl_cmd.specs.Following.{EndsTracked, Follows}
+use Rattle.jl_cmd.specs.Ran.{Ran, LeavesAlone}
+use Rattle.jl_cmd.specs.Reports.{IsReported, EndsReducing}
+use Rattle.jl_cmd.specs.Run.{Computes, Writes}
+use Rattle.jl_cmd.specs.Saying.{GivenClock}
+use Rattle.jl_cmd.proofs.CacheLemmas.{no_lines}
+use Rattle.jl_cmd.proofs.CallingLemmas.{leaves_nothing, memory_at_end, usage_at_end}
+use Rattle.jl_cmd.proofs.ClearEnds.{clears_so, runs_clear, clears_nothing}
+use Rattle.jl_cmd.proofs.ComingLemmas.{comes_nothing}
+use Rattle.jl_cmd.proofs.EndingLemmas.{finishes_command, finishes_so, command_given, idle_given}
+use Rattle.jl_cmd.proofs.IdleLemmas.{own_none, silent_none, clear_moves, reduce_moves, tracker_moves}
+use Rattle.jl_cmd.proofs.ReduceEnds.{reduces_so, runs_reduce, reduces_nothing}
+use Rattle.jl_cmd.proofs.TrackerEnds.{follows_ends, follows_nothing}
+use Rattle.jl_cmd.proofs.TrackerMoves.{asked, asks_nothing}
+
+-- ---- frames
+
+still : (n : ℕ) (Fails : Type 0) → (Fails → ⊥) → Faults n n Fails
+still n Fails never = record { later = omega arith; failed = λ fails. absurd (never fails); steady = λ none. refl }
+
+-- what nobody calls stays
+pub input_still : (v : SourceView) (e : Ended) → (e ≡ ReadFault → ⊥) → SourceAnswers (e ≡ ReadFault) v v
+input_still v e never = record { told = λ t. t; faults = still v.faults (e ≡ ReadFault) never }
+
+pub out_still : (v : SinkView) (e : Ended) → (e ≡ WriteFault → ⊥) → SinkAnswers (e ≡ WriteFault) v v
+out_still v e never = record { told = λ t. t; faults = still v.faults (e ≡ WriteFault) never }
+
+err_still : (v : SinkView) → SinkKeeps v v
+err_still v = record { told = λ t. t; later = omega arith }
+
+folder_still : (v : FolderView) → FolderKeeps v v
+folder_still v = record { told = λ t. t; token = refl; opens = refl; later = omega arith }
+
+host_still : (v : HostView) → HostKeeps v v
+host_still v = record { told = λ t. t; token = refl; processors = refl }
+
+folder_keeps : (Fails : Type 0) (old new : FolderView) → FolderAnswers Fails old new → FolderKeeps old new
+folder_keeps Fails old new f = record { told = f.told; token = f.token; opens = f.opens; later = f.faults.later }
+
+-- the clock is as it was
+memory_clock : (given : Option Command) (w : Course) → w.host'.moments ≡ w.host.moments → GivenClock given w (status_of NoMemory)
+memory_clock None w same = λ told. same
+memory_clock (Some (call file location name args)) w same = λ told un. same
+memory_clock (Some (hash args)) w same = λ told. same
+memory_clock (Some (clear location m f key)) w same = λ told. same
+memory_clock (Some (reduce_size location limits)) w same = λ told other. absurd (other refl)
+memory_clock (Some tracker) w same = λ told. same
+
+-- ---- nothing is run
+
+module _ (means : Meanings) (calls : ℕ) (folder : FolderView) (host : HostView) (input : SourceView) (out err : SinkView) where
+  -- nothing is touched
+  abbrev rest : Course
+  rest = course means calls calls folder folder host host input input out out
+
+  -- nothing done keeps every rule
+  runs_nothing : (given : Option Command) → RunsLawfully given rest
+  unfolding LawfulThroughout
+  runs_nothing None = record { went = goes_none folder; own = silent_none folder }
+  runs_nothing (Some (call file location name args)) = record {
+    went = goes_none folder;
+    own = record { stays = λ m is. own_none (IsOfCall (root_of location) m name folder.token) folder; lawful = (lawful_none (root_of location) means.answer AnyMove folder).owes };
+  }
+  runs_nothing (Some (hash args)) = record { went = goes_none folder; own = silent_none folder }
+  runs_nothing (Some (clear location m f key)) =
+      runs_clear location m f key rest (lawful_none (root_of location) means.answer AnyMove folder) (own_none (IsTaking (root_of location) (IsCleared location m f key)) folder)
+  runs_nothing (Some (reduce_size location limits)) =
+      runs_reduce location limits rest (lawful_none (root_of location) means.answer AnyMove folder) (own_none (IsTaking (root_of location) (IsOfEntry (root_of location))) folder)
+  runs_nothing (Some tracker) = record { went = goes_none folder; own = asked means.answer input folder folder (asks_nothing input folder) }
+
+  rest_keeps : (e : Ended) → (e ≡ ReadFault → ⊥) → (e ≡ WriteFault → ⊥) → Keeps (e ≡ ReadFault) (e ≡ WriteFault) rest err err
+  rest_keeps e no_read no_write = record {
+    folder = folder_still folder;
+    host = host_still host;
+    input = input_still input e no_read;
+    out = out_still out e no_write;
+    err = err_still err;
+  }
+
+  -- nothing was cleared
+  clears_none : (location : PathView) (m f : Option (List ℕ)) (key : Option Key) → Clears location m f key NoMemory folder folder
+  clears_none location m f key =
+      let P = IsProper (root_of location) in
+      record {
+        called = not_called P P (IsTaking (root_of location) (IsCleared location m f key)) Anywhere Anywhere folder (λ s x. x);
+        lawful = λ answers. lawful_none (root_of location) answers AnyMove folder;
+        went = λ done. absurd (not_cleared done);
+        alone = λ done. absurd (not_cleared done);
+        tidy = λ done. absurd (not_cleared done);
+      }
+    where
+      not_cleared : clear_answer.NoMemory ≡ clear_answer.Cleared → ⊥
+      not_cleared is = cc
+
+  -- wrong usage
+  pub ran_usage : Ran None rest err err Usage []
+  ran_usage = record {
+    ends = (refl, λ told. refl);
+    calls = refl;
+    lawful = λ told. runs_nothing None;
+    idle = λ told un. silent_none folder;
+    lines = refl;
+    clock = λ told. refl;
+    alone = tt;
+    comes = tt;
+    follows = tt;
+    clears = tt;
+    reduces = tt;
+    frame = rest_keeps Usage (λ is. let n : 2 ≡ 5 = ap status_of is in omega (arith, n)) (λ is. let n : 2 ≡ 6 = ap status_of is in omega (arith, n));
+  }
+
+  -- want of memory, whatever is given
+  pub ran_memory : (given : Option Command) → Ran given rest err err NoMemory []
+  ran_memory given = record {
+    ends = λ told. refl;
+    calls = idle_given given rest refl;
+    lawful = λ told. runs_nothing given;
+    idle = λ told un. silent_none folder;
+    lines = no_lines given rest [] refl;
+    clock = memory_clock given rest refl;
+    alone = leaves_nothing given rest NoMemory (λ P. tt);
+    comes = comes_nothing given rest (EndsWith NoMemory [] out out) NoMemory (λ P. tt);
+    follows = follows_nothing given means calls folder host input out err;
+    clears = clears_nothing given rest clears_none;
+    reduces = reduces_nothing given rest (λ told. refl);
+    frame = rest_keeps NoMemory (λ is. let n : 8 ≡ 5 = ap status_of is in omega (arith, n)) (λ is. let n : 8 ≡ 6 = ap status_of is in omega (arith, n));
+  }
+
+-- ---- hash
+
+module _ (means : Meanings) (calls : ℕ) (folder : FolderView) (host : HostView) (input : SourceView) (out out' err : SinkView) where
+  abbrev printed : Course
+  printed = course means calls calls folder folder host host input input out out'
+
+  pub ran_hash : (args : List ℕ) (c : Computed) (e : Ended) → Computes (hash_output args) ⊤ c → Writes c e out out' → SinkAnswers (e ≡ WriteFault) out out' → Ran (Some (hash args)) printed err err e []
+  ran_hash args c e computes writes answers =
+      let fin : Finishes (hash_output args) ⊤ ⊤ out out' e = finishes_so (hash_output args) ⊤ ⊤ out out' c e computes (inl writes) in
+      record {
+        ends =
+            command_given (hash args) printed e (λ is. subst (λ (e' : Ended). Finishes (hash_output args) ⊤ ⊤ out out' e') is fin)
+            (finishes_command (λ m. hash_output args) None ⊤ ⊤ folder folder out out' e [] (λ told. tt) fin);
+        calls = refl;
+        lawful = λ told. record { went = goes_none folder; own = silent_none folder };
+        idle = λ told un. silent_none folder;
+        lines = refl;
+        clock = λ told. refl;
+        alone = tt;
+        comes = tt;
+        follows = tt;
+        clears = tt;
+        reduces = tt;
+        frame = record {
+          folder = folder_still folder;
+          host = host_still host;
+          input = input_still input e (λ is. subst (λ (e' : Ended). Finishes (hash_output args) ⊤ ⊤ out out' e') is fin);
+          out = answers;
+          err = err_still err;
+        };
+      }
+
+-- ---- call
+
+module _ (means : Meanings) (calls calls' : ℕ) (folder folder' : FolderView) (host host' : HostView) (input : SourceView) (out out' err : SinkView) where
+  abbrev called : Course
+  called = course means calls calls' folder folder' host host' input input out out'
+
+  pub ran_call : (file location : PathView) (name args : List ℕ) (e : Ended) (said : List ℕ) → CallDid file location name args (stretch_of called) out out' e said → FolderKeeps folder folder' → SinkAnswers (e ≡ WriteFault) out out' → HostKeeps host host'
+      → Ran (Some (call file location name args)) called err err e said
+  ran_call file location name args e said did keeps answers hosts = record {
+    ends = command_given (call file location name args) called e (λ is. tt) did.ends;
+    calls = did.calls;
+    lawful = λ told. record { went = did.went told; own = did.lawful told };
+    idle = did.idle;
+    lines = did.lines;
+    clock = did.clock;
+    alone = did.alone;
+    comes = did.comes;
+    follows = tt;
+    clears = tt;
+    reduces = tt;
+    frame = record {
+      folder = keeps;
+      host = hosts;
+      input = input_still input e (no_read e did.ends);
+      out = answers;
+      err = err_still err;
+    };
+  }
+    where
+      no_read : (k : Ended) → CommandEnds (λ m. call_output means m name args) (Some file) (Trusted (call file location name args) called) ⊤ folder folder' out out' k → k ≡ ReadFault → ⊥
+      no_read k ends is = subst (λ (j : Ended). CommandEnds (λ m. call_output means m name args) (Some file) (Trusted (call file location name args) called) ⊤ folder folder' out out' j) is ends
+
+-- ---- clear
+
+module _ (means : Meanings) (calls : ℕ) (folder folder' : FolderView) (host : HostView) (input : SourceView) (out err : SinkView) where
+  abbrev cleared : Course
+  cleared = course means calls calls folder folder' host host input input out out
+
+  pub ran_clear : (location : PathView) (m f : Option (List ℕ)) (key : Option Key) (e : Ended) → EndsClearing e folder folder' → (folder.told → Clears location m f key e folder folder') → FolderAnswers (e ≡ FolderFault) folder folder' → Ran (Some (clear location m f key)) cleared err err e []
+  ran_clear location m f key e ends clears answers = record {
+    ends = clears_so location m f key cleared e (λ told. refl) ends;
+    calls = refl;
+    lawful = λ told. let done = clears told in runs_clear location m f key cleared (done.lawful means.answer) done.called.own;
+    idle = λ told un. absurd (clear_moves e folder folder' ends un.0 un.1);
+    lines = refl;
+    clock = λ told. refl;
+    alone = tt;
+    comes = tt;
+    follows = tt;
+    clears = (e, refl, ends, clears);
+    reduces = tt;
+    frame = record {
+      folder = folder_keeps (e ≡ FolderFault) folder folder' answers;
+      host = host_still host;
+      input = input_still input e (λ is. subst (λ (k : Ended). EndsClearing k folder folder') is ends);
+      out = out_still out e (λ is. subst (λ (k : Ended). EndsClearing k folder folder') is ends);
+      err = err_still err;
+    };
+  }
+
+-- ---- reduce-size
+
+module _ (means : Meanings) (calls : ℕ) (folder folder' : FolderView) (host host' : HostView) (input : SourceView) (out out' err : SinkView) where
+  abbrev reduced : Course
+  reduced = course means calls calls folder folder' host host' input input out out'
+
+  pub ran_reduce : (location : PathView) (limits : Limits) (e : Ended) → EndsReducing e (IsReported location limits host folder folder') folder folder' out out' → (folder.told → OwnMoves folder.token (IsTaking (root_of location) (IsOfEntry (root_of location))) (moved folder folder')) → (folder.told → CallsLawfully location means.answer AnyMove folder folder')
+      → FolderAnswers (e ≡ FolderFault) folder folder' → SinkAnswers (e ≡ WriteFault) out out' → HostKeeps host host' → (host.told → host'.moments ≡ moments_after host.moments) → Ran (Some (reduce_size location limits)) reduced err err e []
+  ran_reduce location limits e ends own lawful answers outs hosts clock = record {
+    ends = reduces_so location limits reduced (IsReported location limits host folder folder') e ends;
+    calls = refl;
+    lawful = λ told. runs_reduce location limits reduced (lawful told) (own told);
+    idle = λ told un. absurd (reduce_moves e (IsReported location limits host folder folder') folder folder' out out' ends un.0 un.1);
+    lines = refl;
+    clock = λ told other. clock told;
+    alone = tt;
+    comes = tt;
+    follows = tt;
+    clears = tt;
+    reduces = (e, refl, ends);
+    frame = record {
+      folder = folder_keeps (e ≡ FolderFault) folder folder' answers;
+      host = hosts;
+      input = input_still input e (λ is. subst (λ (k : Ended). EndsReducing k (IsReported location limits host folder folder') folder folder' out out') is ends);
+      out = outs;
+      err = err_still err;
+    };
+  }
+
+-- ---- tracker
+
+module _ (means : Meanings) (calls : ℕ) (folder folder' : FolderView) (host : HostView) (input input' : SourceView) (out err err' : SinkView) where
+  abbrev followed : Course
+  followed = course means calls calls folder folder' host host input input' out out
+
+  pub ran_tracker : (e : Ended) → Follows input input' folder folder' err err' e → FolderKeeps folder folder' → SourceAnswers (e ≡ ReadFault) input input' → SinkKeeps err err' → Ran (Some tracker) followed err err' e []
+  ran_tracker e follows keeps inputs errs = record {
+    ends = follows_ends followed err err' e (λ told. refl) inputs.faults.failed follows;
+    calls = refl;
+    lawful = λ told. let m = follows.moves told in record { went = m.moves.went; own = asked means.answer input folder folder' m };
+    idle = λ told un. absurd (tracker_moves follows.tracked e follows.ends un.0 un.1 un.2);
+    lines = refl;
+    clock = λ told. refl;
+    alone = tt;
+    comes = tt;
+    follows = follows;
+    clears = tt;
+    reduces = tt;
+    frame = record {
+      folder = keeps;
+      host = host_still host;
+      input = inputs;
+      out = out_still out e (no_write follows.tracked follows.ends);
+      err = errs;
+    };
+  }
+    where
+      no_write : (t : Tracked) → EndsTracked t e → e ≡ WriteFault → ⊥
+      no_write tracked.Ended ends is = let n : 6 ≡ 0 = ap status_of (sym is ∙ ends) in omega (arith, n)
+      no_write tracked.ReadFault ends is = let n : 6 ≡ 5 = ap status_of (sym is ∙ ends) in omega (arith, n)
+      no_write (tracked.TooMuch line) (inl ends) is = let n : 6 ≡ 3 = ap status_of (sym is ∙ ends) in omega (arith, n)
+      no_write (tracked.TooMuch line) (inr ends) is = let n : 6 ≡ 8 = ap status_of (sym is ∙ ends) in omega (arith, n)
+      no_write tracked.NoMemory ends is = let n : 6 ≡ 8 = ap status_of (sym is ∙ ends) in omega (arith, n)
+
+-- ---- what is left alone
+
+module _ {L F H S : Type 0} (Unread : Type 0) (lib lib' : L) (disk disk' : F) (machine machine' : H) (source source' : S) where
+  pub call_alone : (file location : PathView) (name args : List ℕ) → source' ≡ source → (Unread → (lib' ≡ lib) × (machine' ≡ machine)) → LeavesAlone (Some (call file location name args)) Unread lib lib' disk disk' machine machine' source source'
+  call_alone file location name args input unread = record {
+    library = λ none. absurd (none tt);
+    folder = λ none. absurd (none tt);
+    host = λ none. absurd (none tt);
+    input = λ none. input;
+    unread = λ u calling. unread u;
+  }
+
+  pub clear_alone : (location : PathView) (m f : Option (List ℕ)) (key : Option Key) → lib' ≡ lib → machine' ≡ machine → source' ≡ source → LeavesAlone (Some (clear location m f key)) Unread lib lib' disk disk' machine machine' source source'
+  clear_alone location m f key library host input = record {
+    library = λ none. library;
+    folder = λ none. absurd (none tt);
+    host = λ none. host;
+    input = λ none. input;
+    unread = λ u calling. absurd calling;
+  }
+
+  pub reduce_alone : (location : PathView) (limits : Limits) → lib' ≡ lib → source' ≡ source → LeavesAlone (Some (reduce_size location limits)) Unread lib lib' disk disk' machine machine' source source'
+  reduce_alone location limits library input = record {
+    library = λ none. library;
+    folder = λ none. absurd (none tt);
+    host = λ none. absurd (none tt);
+    input = λ none. input;
+    unread = λ u calling. absurd calling;
+  }
+
+  pub tracker_alone : lib' ≡ lib → machine' ≡ machine → LeavesAlone (Some tracker) Unread lib lib' disk disk' machine machine' source source'
+  tracker_alone library host = record {
+    library = λ none. library;
+    folder = λ none. absurd (none tt);
+    host = λ none. host;
+    input = λ none. absurd (none tt);
+    unread = λ u calling. absurd calling;
+  }
+
+  -- where nothing was used
+  pub none_alone : (given : Option Command) → lib' ≡ lib → disk' ≡ disk → machine' ≡ machine → source' ≡ source → LeavesAlone given Unread lib lib' disk disk' machine machine' source source'
+  none_alone given library folder host input = record {
+    library = λ none. library;
+    folder = λ none. folder;
+    host = λ none. host;
+    input = λ none. input;
+    unread = λ u calling. (library, host);
+  }
+
+  -- in other words
+  pub alone_as : (o o' : Option Command) (U : Type 0) → o ≡ o' → (U → Unread) → LeavesAlone o Unread lib lib' disk disk' machine machine' source source' → LeavesAlone o' U lib lib' disk disk' machine machine' source source'
+  alone_as o o' U p f h = subst (λ (g : Option Command). LeavesAlone g U lib lib' disk disk' machine machine' source source') p (record { library = h.library; folder = h.folder; host = h.host; input = h.input; unread = λ u. h.unread (f u) })
+
+-- ---- in other words
+
+pub ran_as : (o o' : Option Command) (w : Course) (err err' : SinkView) (e e' : Ended) (said said' : List ℕ) → o ≡ o' → e ≡ e' → said ≡ said' → Ran o w err err' e said → Ran o' w err err' e' said'
+ran_as o o' w err err' e e' said said' p q r h =
+    subst (λ (x : List ℕ). Ran o' w err err' e' x) r (subst (λ (k : Ended). Ran o' w err err' k said) q (subst (λ (g : Option Command). Ran g w err err' e said) p h))
