@@ -1,8 +1,11 @@
 -- Why nothing is run, and what a run of the program's words says of them.
 use Rattle.std.specs.Prelude.{◌≡◌, ◌⊎◌, ◌++◌, ℕ, List, Option, Some, None, codes}
+use Rattle.jl_streams.specs.Views.{SinkView, SinkAnswers, SinkKeeps}
 use Rattle.jl_cmd.specs.Commands.{given_of, hash}
 use Rattle.jl_cmd.specs.Output.{Output, hash_output}
-use Rattle.jl_cmd.specs.Promises.{IsWhole}
+use Rattle.jl_cmd.specs.Course.{IsClear}
+use Rattle.jl_cmd.specs.Endings.{WritesNothing}
+use Rattle.jl_cmd.specs.Promises.{IsWhole, IsSilent, IsStatus, text_of_status}
 use Rattle.jl_cmd.specs.Statuses as status
 use Rattle.jl_cmd.specs.Texts.{error_line}
 use Rattle.joblib.specs.Tokens.{FirstGives, IsTokenOf, own_of}
@@ -20,10 +23,20 @@ fault_text Usage = error_line (codes "usage")
 fault_text Memory = error_line (codes "out of memory")
 
 -- an output was put out whole: its status, its bytes behind what was written, and with nothing before it its text on the error stream
-pub record PutsWhole (n : ℕ) (out_tells err_clear : Type 0) (written written' errors errors' : List ℕ) (o : Output) : Type 0 where
+pub record PutsWhole (n : ℕ) (out out' err err' : SinkView) (o : Output) : Type 0 where
   pub status : o.status ≡ n
-  pub bytes : out_tells → written' ≡ written ++ o.bytes
-  pub text : err_clear → errors' ≡ errors ++ o.text
+  pub bytes : out.told → out'.written ≡ out.written ++ o.bytes
+  pub text : IsClear err err' → err'.written ≡ err.written ++ o.text
+
+-- what a status tells of the output and of the error stream: nothing was written where the status is silent, and a fault of the output is told as such
+-- and nothing else is; at a status that has one text that text stands last, and alone where the words were wrong
+pub record Tells (n : ℕ) (out out' err err' : SinkView) : Type 0 where
+  pub statuses : IsStatus n
+  pub nothing : IsSilent n → WritesNothing out out'
+  pub usage_text : n ≡ status.usage → IsClear err err' → err'.written ≡ err.written ++ text_of_status n
+  pub text : IsSilent n ⊎ (n ≡ status.write_fault) → IsClear err err' → (said : List ℕ) × (err'.written ≡ err.written ++ (said ++ text_of_status n))
+  pub out_frame : SinkAnswers (n ≡ status.write_fault) out out'
+  pub err_frame : SinkKeeps err err'
 
 -- what a run makes of its own words: they are wrong usage just where they give no command, unless memory is short;
 -- and where they ask for a hash, that of their arguments is put out

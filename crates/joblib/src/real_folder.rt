@@ -482,18 +482,9 @@ fn list<R: Files + AllocGlobal + Copy>(rt: R, path: &Path) -> Listed
 
 impl<R: Files<File = File> + AllocGlobal + Copy + Drop> Folder for RealFolder<R> {
     ghost use Rattle.std.specs.Prelude.{[]};
-    ghost use Rattle.jl_folder.specs.Tables.{state_of};
-    ghost use Rattle.jl_folder.specs.Trees.{empty_tree};
+    ghost use Rattle.jl_folder.specs.State.{bare_state};
 
-    ghost token = { λ f. f.token };
-
-    ghost told = { λ f. ⊥ };
-
-    ghost history = { λ f. record { start = state_of empty_tree; trace = [] } };
-
-    ghost opens = { λ f. opens_of f.table.items };
-
-    ghost faults = { λ f. f.faults };
+    ghost view = { λ f. record { told = ⊥; token = f.token; history = record { start = bare_state; trace = [] }; opens = opens_of f.table.items; faults = f.faults } };
 
     ghost lawful = { λ f told. absurd told };
 

@@ -78,13 +78,7 @@ impl<R: Clock + Drop> RealHost<R> {
 }
 
 impl<R: Clock + Drop> Host for RealHost<R> {
-    ghost token = { λ h. h.token };
-
-    ghost processors = { λ h. h.processors };
-
-    ghost told = { λ h. ⊥ };
-
-    ghost moments = { λ h. [] };
+    ghost view = { λ h. record { told = ⊥; token = h.token; processors = h.processors; moments = [] } };
 
     fn now(&mut self) -> u64 {
         let moment = moment_of(&self.rt);

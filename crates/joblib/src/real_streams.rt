@@ -20,11 +20,7 @@ impl<R: Read + Drop> RealSource<R> {
 }
 
 impl<R: Read + Drop> Source for RealSource<R> {
-    ghost told = { λ s. ⊥ };
-
-    ghost left = { λ s. [] };
-
-    ghost faults = { λ s. s.faults };
+    ghost view = { λ s. record { told = ⊥; left = []; faults = s.faults } };
 
     fn read(&mut self, buf: &mut [u8]) -> Got {
         match self.reader.read(buf) {
@@ -54,11 +50,7 @@ impl<W: Write + Drop> RealSink<W> {
 }
 
 impl<W: Write + Drop> Sink for RealSink<W> {
-    ghost told = { λ s. ⊥ };
-
-    ghost written = { λ s. [] };
-
-    ghost faults = { λ s. s.faults };
+    ghost view = { λ s. record { told = ⊥; written = []; faults = s.faults } };
 
     fn write(&mut self, bytes: &[u8]) -> Put {
         if let Ok(count) = self.writer.write(bytes) {

@@ -1,10 +1,9 @@
 // From the words and the environment to a run.
-ghost use Rattle.std.specs.Prelude.{◌≡◌, ◌⊎◌, ◌≤◌, ◌++◌, ℕ, List, IfOk, IfErr, map, string_bytes};
-ghost use Rattle.jl_text.specs.Counts.{Rose};
+ghost use Rattle.std.specs.Prelude.{◌≡◌, ◌≤◌, IfOk, IfErr, map, string_bytes};
 ghost use Rattle.jl_text.specs.declared.limits.TheConstants.{MOST_PROCESSORS};
 ghost use Rattle.joblib.specs.Tokens.{FirstGives, IsTokenOf};
-ghost use Rattle.jl_cmd.specs.Promises.{IsSilent, IsStatus, text_of_status};
-ghost use Rattle.joblib.specs.Starts.{PutsWhole, RunsOwn, RunsWords, fault_status, fault_text};
+ghost use Rattle.jl_cmd.specs.Promises.{IsSilent};
+ghost use Rattle.joblib.specs.Starts.{PutsWhole, RunsOwn, RunsWords, Tells, fault_status, fault_text};
 
 use crate::real_folder::RealFolder;
 use crate::real_host::{RealHost, moment_of};
@@ -126,18 +125,9 @@ where
     requires most { processors ≤ MOST_PROCESSORS }
     ensures token { IfOk result (λ r. r.token ≡ token) }
     ensures words { IfOk result (λ r. RunsOwn (map string_bytes words.now) processors
-        (PutsWhole r.status (O.told out.old) (E.told err.old × (Rose (E.faults err.old) (E.faults err.new) → ⊥)) (O.written out.old) (O.written out.new)
-        (E.written err.old) (E.written err.new)) r.status) }
-    ensures status { IfOk result (λ r. IsStatus r.status) }
-    ensures nothing { IfOk result (λ r. IsSilent r.status → O.told out.old → O.written out.new ≡ O.written out.old) }
-    ensures write_fault { IfOk result (λ r. r.status ≡ 6 → Rose (O.faults out.old) (O.faults out.new)) }
-    ensures usage_text { IfOk result (λ r. r.status ≡ 2 → E.told err.old → (Rose (E.faults err.old) (E.faults err.new) → ⊥)
-        → E.written err.new ≡ E.written err.old ++ text_of_status r.status) }
-    ensures text { IfOk result (λ r. IsSilent r.status ⊎ (r.status ≡ 6) → E.told err.old → (Rose (E.faults err.old) (E.faults err.new) → ⊥)
-        → (said : List ℕ) × (E.written err.new ≡ E.written err.old ++ (said ++ text_of_status r.status))) }
+        (PutsWhole r.status (O.view out.old) (O.view out.new) (E.view err.old) (E.view err.new)) r.status) }
+    ensures tells { IfOk result (λ r. Tells r.status (O.view out.old) (O.view out.new) (E.view err.old) (E.view err.new)) }
     ensures not_run { IfErr result (λ e. (out.new ≡ out.old) × (err.new ≡ err.old)) }
-    ensures out_faults { O.faults out.old ≤ O.faults out.new }
-    ensures err_faults { E.faults err.old ≤ E.faults err.new }
 {
     let twin = token.copy()?;
     let mut lib = Lang::new(rt.alloc());
@@ -174,18 +164,9 @@ where
     requires least { 1 ≤ processors }
     requires most { processors ≤ MOST_PROCESSORS }
     ensures words { IfOk result (λ r. RunsWords (map string_bytes words.now) processors r.token
-        (PutsWhole r.status (O.told out.old) (E.told err.old × (Rose (E.faults err.old) (E.faults err.new) → ⊥)) (O.written out.old) (O.written out.new)
-        (E.written err.old) (E.written err.new)) r.status) }
-    ensures status { IfOk result (λ r. IsStatus r.status) }
-    ensures nothing { IfOk result (λ r. IsSilent r.status → O.told out.old → O.written out.new ≡ O.written out.old) }
-    ensures write_fault { IfOk result (λ r. r.status ≡ 6 → Rose (O.faults out.old) (O.faults out.new)) }
-    ensures usage_text { IfOk result (λ r. r.status ≡ 2 → E.told err.old → (Rose (E.faults err.old) (E.faults err.new) → ⊥)
-        → E.written err.new ≡ E.written err.old ++ text_of_status r.status) }
-    ensures text { IfOk result (λ r. IsSilent r.status ⊎ (r.status ≡ 6) → E.told err.old → (Rose (E.faults err.old) (E.faults err.new) → ⊥)
-        → (said : List ℕ) × (E.written err.new ≡ E.written err.old ++ (said ++ text_of_status r.status))) }
+        (PutsWhole r.status (O.view out.old) (O.view out.new) (E.view err.old) (E.view err.new)) r.status) }
+    ensures tells { IfOk result (λ r. Tells r.status (O.view out.old) (O.view out.new) (E.view err.old) (E.view err.new)) }
     ensures not_run { IfErr result (λ e. (out.new ≡ out.old) × (err.new ≡ err.old)) }
-    ensures out_faults { O.faults out.old ≤ O.faults out.new }
-    ensures err_faults { E.faults err.old ≤ E.faults err.new }
 {
     let given = first_token(&rt, words)?;
     let own = own_words(words, given.is_some());
@@ -202,15 +183,7 @@ where
     E: Sink,
     requires least { 1 ≤ processors }
     requires most { processors ≤ MOST_PROCESSORS }
-    ensures status { IsStatus result }
-    ensures nothing { IsSilent result → O.told out.old → O.written out.new ≡ O.written out.old }
-    ensures write_fault { result ≡ 6 → Rose (O.faults out.old) (O.faults out.new) }
-    ensures usage_text { result ≡ 2 → E.told err.old → (Rose (E.faults err.old) (E.faults err.new) → ⊥)
-        → E.written err.new ≡ E.written err.old ++ text_of_status result }
-    ensures text { IsSilent result ⊎ (result ≡ 6) → E.told err.old → (Rose (E.faults err.old) (E.faults err.new) → ⊥)
-        → (said : List ℕ) × (E.written err.new ≡ E.written err.old ++ (said ++ text_of_status result)) }
-    ensures out_faults { O.faults out.old ≤ O.faults out.new }
-    ensures err_faults { E.faults err.old ≤ E.faults err.new }
+    ensures { Tells result (O.view out.old) (O.view out.new) (E.view err.old) (E.view err.new) }
 {
     let fault = match words_of(&rt) {
         Ok(words) => match run_words(rt, processors, words.as_slice(), input, out, err) {

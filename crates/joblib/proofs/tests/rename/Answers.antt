@@ -1,5 +1,5 @@
 use Rattle.std.proofs.Common.{sym, ◌∙◌, true≢false}
-use Rattle.jl_folder.proofs.TableLemmas.{path_eq-Decides}
+use Rattle.jl_folder.proofs.PathLemmas.{path_eq-Decides}
 use Rattle.joblib.proofs.tests.rename.Goals as goal
 
 pub rename-requires : goal.rename-requires
