@@ -4,3 +4,4 @@ pub mod ScopeLemmas
 pub mod ReaderLemmas
 pub mod LineLemmas
 pub mod BodyLemmas
+mod RefusalLemmas

@@ -1,4 +1,5 @@
 pub mod Headings
+pub mod Refusals
 pub mod Scopes
 pub mod Lines
 pub mod Modules

@@ -9,8 +9,7 @@ use Rattle.jl_lexer.specs.declared.operators.Prefix.TheVariants.{Not, Negative}
 use Rattle.jl_lexer.specs.declared.operators.Function.{Function}
 use Rattle.jl_lexer.specs.declared.operators.Function.TheVariants.{Len, Sum, Min, Max, Range, Array}
 use Rattle.jl_syntax.specs.declared.joint.Joint.TheVariants.{Infix}
-use Rattle.jl_syntax.specs.declared.machine.Frame.{Frame}
-use Rattle.jl_syntax.specs.declared.machine.Frame.TheVariants.{Bracket, Behind, Operand, Condition, Otherwise, Element, Member, Bound, Listed, Keyed, Source, Filter}
+use Rattle.jl_syntax.specs.Frames.{Frame, Bracket, Behind, Operand, Condition, Otherwise, Element, Member, Bound, Listed, Keyed, Source, Filter}
 use Rattle.jl_syntax.specs.declared.machine.Mode.TheVariants.{Wanted, Held, Key, Each}
 use Rattle.jl_lexer.specs.Words.{is_leaf, is_form_word, is_truth_word, is_function_word, true_word, false_word, none_word, is_identifier, is_key}
 use Rattle.jl_lexer.specs.Marks.{operator_word, prefix_word, if_word, else_word, for_word, in_word, prefix_of, function_word, own_level, left_level, prefix_level}

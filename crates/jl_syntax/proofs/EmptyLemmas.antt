@@ -1,8 +1,7 @@
 -- What stands behind an opening bracket, by how many members there are.
 use Rattle.std.proofs.Common.{◌≡◌, ℕ, suc, true, false, List, [], ◌∷◌, length, refl, arith}
 use Rattle.std.specs.Prelude.{nat_eq}
-use Rattle.jl_syntax.specs.declared.machine.Frame.{Frame}
-use Rattle.jl_syntax.specs.declared.machine.Frame.TheVariants.{Listed}
+use Rattle.jl_syntax.specs.Frames.{Frame, Listed}
 use Rattle.jl_syntax.specs.declared.machine.Mode.TheVariants.{Held, Each}
 use Rattle.jl_lexer.specs.Marks.{is_mark}
 use Rattle.jl_syntax.specs.Trees.{Expression, list, table, members_of, entries_of}

@@ -8,8 +8,7 @@ use Rattle.jl_lexer.specs.declared.operators.Function.{Function}
 use Rattle.jl_lexer.specs.declared.operators.Function.TheVariants.{Len, Sum, Min, Max, Range, Array}
 use Rattle.jl_syntax.specs.declared.joint.Joint.{Joint}
 use Rattle.jl_syntax.specs.declared.joint.Joint.TheVariants.{Infix, Opening, If, Else, For, Closing, Ending, Braced, Comma, Strange}
-use Rattle.jl_syntax.specs.declared.machine.Frame.{Frame}
-use Rattle.jl_syntax.specs.declared.machine.Frame.TheVariants.{Bracket, Behind, Operand, Condition, Otherwise, Element, Member, Bound, Listed, Keyed, Source, Filter}
+use Rattle.jl_syntax.specs.Frames.{Frame, Bracket, Behind, Operand, Condition, Otherwise, Element, Member, Bound, Listed, Keyed, Source, Filter}
 use Rattle.jl_syntax.specs.declared.machine.Mode.{Mode}
 use Rattle.jl_syntax.specs.declared.machine.Mode.TheVariants.{Wanted, Held, Calling, Key, Colon, Each, Naming}
 use Rattle.jl_lexer.specs.Words.{is_leaf, is_identifier, is_key}

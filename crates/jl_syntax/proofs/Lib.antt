@@ -1,8 +1,8 @@
 pub mod ListLemmas
 pub mod HeightLemmas
 pub mod EmptyLemmas
-pub mod OtherFrames
 pub mod Completeness
 pub mod Soundness
 pub mod Keeping
 pub mod Deepness
+pub mod OpenBrackets

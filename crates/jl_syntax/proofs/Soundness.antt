@@ -12,8 +12,7 @@ use Rattle.jl_lexer.specs.declared.operators.Function.{Function}
 use Rattle.jl_lexer.specs.declared.operators.Function.TheVariants.{Len, Sum, Min, Max, Range, Array}
 use Rattle.jl_syntax.specs.declared.joint.Joint.{Joint}
 use Rattle.jl_syntax.specs.declared.joint.Joint.TheVariants.{Infix, Opening, If, Else, For, Closing, Ending, Braced, Comma, Strange}
-use Rattle.jl_syntax.specs.declared.machine.Frame.{Frame}
-use Rattle.jl_syntax.specs.declared.machine.Frame.TheVariants.{Bracket, Behind, Operand, Condition, Otherwise, Element, Member, Bound, Listed, Keyed, Source, Filter}
+use Rattle.jl_syntax.specs.Frames.{Frame, Bracket, Behind, Operand, Condition, Otherwise, Element, Member, Bound, Listed, Keyed, Source, Filter}
 use Rattle.jl_syntax.specs.declared.machine.Mode.{Mode}
 use Rattle.jl_syntax.specs.declared.machine.Mode.TheVariants.{Wanted, Held, Calling, Key, Colon, Each, Naming}
 use Rattle.jl_lexer.specs.Words.{is_leaf, is_identifier, is_key}
@@ -34,7 +33,7 @@ found [] w o e = absurd (cc)
 found (p ∷ ps) w o e = found_if (bytes_eq w (operator_word p)) w p o (operator_among ps w) (λ h. (bytes_eq-Decides w (operator_word p)).0 h) (found ps w o) e
 
 -- what a sign behind an operand is written as
-abbrev IsJoint : List ℕ → Joint → Type 0
+abbrev pub IsJoint : List ℕ → Joint → Type 0
 IsJoint w (Infix o) = w ≡ operator_word o
 IsJoint w Opening = w ≡ square_open
 IsJoint w If = w ≡ if_word
@@ -50,7 +49,7 @@ joint_if : (b : Bool) (w : List ℕ) (j k : Joint) → (b ≡ true → IsJoint w
 joint_if true w j k h r = h refl
 joint_if false w j k h r = r
 
-is_word : (w v : List ℕ) → bytes_eq w v ≡ true → w ≡ v
+pub is_word : (w v : List ℕ) → bytes_eq w v ≡ true → w ≡ v
 is_word w v h = (bytes_eq-Decides w v).0 h
 
 loop_is : (w : List ℕ) → IsJoint w (loop_joint w)
@@ -71,10 +70,10 @@ joint_case : (o : Option Operator) (w : List ℕ) → operator_of w ≡ o → Is
 joint_case None w e = mark_is w
 joint_case (Some o) w e = found (Or ∷ And ∷ Equal ∷ Unequal ∷ Less ∷ AtMost ∷ Greater ∷ AtLeast ∷ Plus ∷ Minus ∷ Times ∷ Quotient ∷ Remainder ∷ []) w o e
 
-joint_is : (w : List ℕ) → IsJoint w (joint_of w)
+pub joint_is : (w : List ℕ) → IsJoint w (joint_of w)
 joint_is w = joint_case (operator_of w) w refl
 
-abbrev IsPrefix : List ℕ → Option Prefix → Type 0
+abbrev pub IsPrefix : List ℕ → Option Prefix → Type 0
 IsPrefix w None = Unit {0}
 IsPrefix w (Some p) = w ≡ prefix_word p
 
@@ -82,7 +81,7 @@ prefix_if : (b : Bool) (w : List ℕ) (o q : Option Prefix) → (b ≡ true → 
 prefix_if true w o q h k = h refl
 prefix_if false w o q h k = k
 
-prefix_is : (w : List ℕ) → IsPrefix w (prefix_of w)
+pub prefix_is : (w : List ℕ) → IsPrefix w (prefix_of w)
 prefix_is w =
     prefix_if (bytes_eq w (prefix_word Not)) w (Some Not) _ (is_word w (prefix_word Not))
     (prefix_if (bytes_eq w (prefix_word Negative)) w (Some Negative) None (is_word w (prefix_word Negative)) tt)
@@ -91,7 +90,7 @@ call_if : (b : Bool) (w : List ℕ) (p o : Function) (rest : Option Function) �
 call_if true w p o rest h k e = let same : p ≡ o = cc in h refl ∙ ap function_word same
 call_if false w p o rest h k e = k e
 
-function_found : (fs : List Function) (w : List ℕ) (f : Function) → function_among fs w ≡ Some f → w ≡ function_word f
+pub function_found : (fs : List Function) (w : List ℕ) (f : Function) → function_among fs w ≡ Some f → w ≡ function_word f
 function_found [] w f e = absurd (cc)
 function_found (p ∷ ps) w f e = call_if (bytes_eq w (function_word p)) w p f (function_among ps w) (is_word w (function_word p)) (function_found ps w f) e
 

@@ -1,8 +1,7 @@
 -- How the logic stores what waits for an operand.
 use Rattle.std.specs.Prelude.{◌≡◌, ℕ, zero, suc, List, [], ◌∷◌, refl}
 use Rattle.std.specs.Coded.{Coded, code_by, coded×, coded_ℕ, coded_list}
-use Rattle.jl_syntax.specs.declared.machine.Frame.{Frame}
-use Rattle.jl_syntax.specs.declared.machine.Frame.TheVariants.{Bracket, Behind, Operand, Condition, Otherwise, Element, Member, Bound, Listed, Keyed, Source, Filter}
+use Rattle.jl_syntax.specs.Frames.{Frame, Bracket, Behind, Operand, Condition, Otherwise, Element, Member, Bound, Listed, Keyed, Source, Filter}
 use Rattle.jl_syntax.specs.Trees.{Expression}
 use Rattle.jl_syntax.specs.Codes.{coded_expressions, coded_entries, operator_number, operator_at, operator_back, prefix_number, prefix_at, prefix_back, function_number, function_at, function_back}
 use Rattle.std.proofs.Common.{ap}

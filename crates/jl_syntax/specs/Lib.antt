@@ -2,7 +2,10 @@ pub mod Trees
 pub mod Codes
 pub mod Form
 pub mod Falls
+pub mod Frames
+pub mod FrameForm
 pub mod Machine
 pub mod FrameCodes
 pub mod Steps
 pub mod Grammar
+pub mod Fronts

@@ -5,8 +5,9 @@ use Rattle.jl_lexer.specs.declared.operators.Operator.{Operator}
 use Rattle.jl_lexer.specs.declared.operators.Prefix.{Prefix}
 use Rattle.jl_lexer.specs.declared.operators.Function.{Function}
 use Rattle.jl_lexer.specs.declared.operators.Function.TheVariants.{Len, Sum, Min, Max, Range, Array}
-use Rattle.jl_syntax.specs.declared.machine.Frame.{Frame}
-use Rattle.jl_syntax.specs.declared.machine.Frame.TheVariants.{Bracket, Behind, Operand, Condition, Otherwise, Element, Member, Bound, Listed, Keyed, Source, Filter}
+use Rattle.jl_syntax.specs.Frames.{Frame, Bracket, Behind, Operand, Condition, Otherwise, Element, Member, Bound, Listed, Keyed, Source, Filter}
+use Rattle.jl_syntax.specs.declared.frames.Kind.{Kind}
+use Rattle.jl_syntax.specs.declared.frames.Kind.TheVariants.{Inside, Behind as BehindOne, Operand as OperandOf, Condition as OfCondition, Otherwise as OfChoice, Source as OfSource, Filter as OfFilter}
 use Rattle.jl_syntax.specs.declared.machine.Mode.{Mode}
 use Rattle.jl_syntax.specs.declared.machine.Mode.TheVariants.{Wanted, Held, Calling, Key, Colon, Each, Naming}
 use Rattle.jl_syntax.specs.declared.joint.Joint.{Joint}
@@ -30,38 +31,49 @@ joint_by None w = mark_joint w
 abbrev pub joint_of : List ℕ → Joint
 joint_of w = joint_by (operator_of w) w
 
+-- what kind of frame waits
+abbrev pub kind_of : Frame → Kind
+kind_of Bracket = Inside
+kind_of (Behind p) = BehindOne p
+kind_of (Operand o a) = OperandOf o
+kind_of (Condition a) = OfCondition
+kind_of (Otherwise a c) = OfChoice
+kind_of (Element a) = Inside
+kind_of (Member f) = Inside
+kind_of (Bound a) = Inside
+kind_of (Listed es) = Inside
+kind_of (Keyed es k) = Inside
+kind_of (Source e x) = OfSource
+kind_of (Filter e x a) = OfFilter
+
 -- the lowest level of the operand that a frame waits for
+abbrev pub kind_wanted : Kind → ℕ
+kind_wanted Inside = 0
+kind_wanted (BehindOne p) = prefix_level p
+kind_wanted (OperandOf o) = suc (own_level o)
+kind_wanted OfCondition = 1
+kind_wanted OfChoice = 0
+kind_wanted OfSource = 1
+kind_wanted OfFilter = 1
+
 abbrev pub wanted_by : Frame → ℕ
-wanted_by Bracket = 0
-wanted_by (Behind p) = prefix_level p
-wanted_by (Operand o a) = suc (own_level o)
-wanted_by (Condition a) = 1
-wanted_by (Otherwise a c) = 0
-wanted_by (Element a) = 0
-wanted_by (Member f) = 0
-wanted_by (Bound a) = 0
-wanted_by (Listed es) = 0
-wanted_by (Keyed es k) = 0
-wanted_by (Source e x) = 1
-wanted_by (Filter e x a) = 1
+wanted_by f = kind_wanted (kind_of f)
 
 abbrev pub wanted : List Frame → ℕ
 wanted [] = 0
 wanted (f ∷ fs) = wanted_by f
 
+abbrev pub kind_is_bracket : Kind → Bool
+kind_is_bracket Inside = true
+kind_is_bracket (BehindOne p) = false
+kind_is_bracket (OperandOf o) = false
+kind_is_bracket OfCondition = false
+kind_is_bracket OfChoice = false
+kind_is_bracket OfSource = true
+kind_is_bracket OfFilter = true
+
 abbrev pub is_bracket : Frame → Bool
-is_bracket Bracket = true
-is_bracket (Behind p) = false
-is_bracket (Operand o a) = false
-is_bracket (Condition a) = false
-is_bracket (Otherwise a c) = false
-is_bracket (Element a) = true
-is_bracket (Member f) = true
-is_bracket (Bound a) = true
-is_bracket (Listed es) = true
-is_bracket (Keyed es k) = true
-is_bracket (Source e x) = true
-is_bracket (Filter e x a) = true
+is_bracket f = kind_is_bracket (kind_of f)
 
 -- how many brackets are open
 abbrev pub depth : List Frame → ℕ
@@ -69,19 +81,17 @@ depth [] = 0
 depth (f ∷ fs) = if is_bracket f then suc (depth fs) else depth fs
 
 -- whether an operation that waits is done before an operator whose left operand has this level at least
+abbrev pub kind_binds : ℕ → Kind → Bool
+kind_binds l Inside = false
+kind_binds l (BehindOne p) = nat_le l (prefix_level p)
+kind_binds l (OperandOf o) = nat_le l (own_level o)
+kind_binds l OfCondition = false
+kind_binds l OfChoice = nat_le l 0
+kind_binds l OfSource = false
+kind_binds l OfFilter = false
+
 abbrev pub binds : ℕ → Frame → Bool
-binds l Bracket = false
-binds l (Behind p) = nat_le l (prefix_level p)
-binds l (Operand o a) = nat_le l (own_level o)
-binds l (Condition a) = false
-binds l (Otherwise a c) = nat_le l 0
-binds l (Element a) = false
-binds l (Member f) = false
-binds l (Bound a) = false
-binds l (Listed es) = false
-binds l (Keyed es k) = false
-binds l (Source e x) = false
-binds l (Filter e x a) = false
+binds l f = kind_binds l (kind_of f)
 
 -- an operation with its last operand; `keep` is what is kept of each new tree
 abbrev pub operated : (Expression → Expression) → Frame → Expression → Expression
@@ -165,19 +175,17 @@ abbrev pub conditioned : List Frame → Expression → Step
 conditioned fs e = if nat_le (wanted fs) 0 then going (Condition e ∷ fs) Wanted else bad
 
 -- whether the list that a list goes over stands on top
+abbrev pub kind_is_source : Kind → Bool
+kind_is_source Inside = false
+kind_is_source (BehindOne p) = false
+kind_is_source (OperandOf o) = false
+kind_is_source OfCondition = false
+kind_is_source OfChoice = false
+kind_is_source OfSource = true
+kind_is_source OfFilter = false
+
 abbrev pub is_source : Frame → Bool
-is_source Bracket = false
-is_source (Behind p) = false
-is_source (Operand o a) = false
-is_source (Condition a) = false
-is_source (Otherwise a c) = false
-is_source (Element a) = false
-is_source (Member f) = false
-is_source (Bound a) = false
-is_source (Listed es) = false
-is_source (Keyed es k) = false
-is_source (Source m x) = true
-is_source (Filter m x a) = false
+is_source f = kind_is_source (kind_of f)
 
 abbrev pub top_is_source : List Frame → Bool
 top_is_source [] = false

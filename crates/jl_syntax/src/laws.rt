@@ -1,7 +1,8 @@
 ghost use Rattle.std.specs.Prelude.{◌≡◌, ◌≢◌, ◌≤◌, List, ℕ};
 ghost use Rattle.jl_syntax.specs.Trees.{Expression};
 ghost use Rattle.jl_syntax.specs.Grammar.{Writes, brackets};
-ghost use Rattle.jl_syntax.specs.Machine.{read_signs, read, broken};
+ghost use Rattle.jl_syntax.specs.Machine.{read_signs, read, broken, nested_deep};
+ghost use Rattle.jl_syntax.specs.Fronts.{Deepens, Breaks};
 
 /// Signs write one expression at most.
 pub fn signs_write_one_expression()
@@ -21,4 +22,15 @@ pub fn what_is_written_is_read()
 /// Only signs that no expression writes are broken.
 pub fn what_is_written_is_not_broken()
     ensures { (ws : List (List ℕ)) (e : Expression) → Writes ws e → read_signs ws ≢ broken }
+{}
+
+/// Signs are told to nest too deep only where more than 128 brackets are open among them.
+pub fn what_is_too_deep_opens_too_many()
+    ensures { (ws : List (List ℕ)) → read_signs ws ≡ nested_deep → Deepens ws }
+{}
+
+/// Signs are told to be broken only where they break off, with never more than 128 brackets open
+/// before that.
+pub fn what_is_broken_breaks_off()
+    ensures { (ws : List (List ℕ)) → read_signs ws ≡ broken → Breaks ws }
 {}

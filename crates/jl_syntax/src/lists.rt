@@ -2,9 +2,10 @@
 ghost use Rattle.std.specs.Prelude.{◌≡◌, ◌∷◌};
 ghost use Rattle.jl_syntax.specs.Machine.{emptied as emptied_of, unkeyed as unkeyed_of, looped_by, braced_by, keyed as keyed_of, no_key as no_key_of, valued as valued_of, varied as varied_of, sourced as sourced_of, kept};
 ghost use Rattle.jl_syntax.specs.Steps.{IsStep};
-ghost use Rattle.jl_syntax.specs.declared.machine.Frame.TheVariants.{Listed};
+ghost use Rattle.jl_syntax.specs.Frames.{Listed};
 
-use crate::machine::{Frame, Mode, Operands, Reader, Stack, Stop, opened};
+use crate::frames::{Frame, Single, Waiting};
+use crate::machine::{Mode, Operands, Reader, Stack, Stop, opened};
 use crate::tree::{Entries, Members, Tree};
 use jl_lexer::{Key, Name, is_identifier, is_mark};
 use std::alloc::Global;
@@ -28,8 +29,8 @@ fn emptied_list<'a>(members: Members<'a>, stack: Stack<'a>) -> Result<Reader<'a>
 fn emptied_at<'a>(frame: Frame<'a>, stack: Stack<'a>) -> Result<Reader<'a>, Stop>
     ensures { IsStep result (emptied_of (frame.entry ∷ stack.entry)) }
 {
-    match frame {
-        Frame::Listed(members) => emptied_list(members, stack),
+    match frame.waiting {
+        Waiting::Members(members) => emptied_list(members, stack),
         other => {
             drop(other);
             Err(Stop::Bad)
@@ -42,7 +43,7 @@ pub(crate) fn emptied(stack: Stack<'_>) -> Result<Reader<'_>, Stop>
     ensures { IsStep result (emptied_of stack.entry) }
 {
     match stack.pop() {
-        Some((frame, rest)) => emptied_at(frame, rest),
+        Some(top) => emptied_at(top.frame, top.stack),
         None => Err(Stop::Bad),
     }
 }
@@ -63,28 +64,29 @@ pub(crate) fn unkeyed(alloc: Global, stack: Stack<'_>) -> Result<Reader<'_>, Sto
 // A `for` behind an operand and the members of a list.
 #[tactic(auto, using(crate::proofs::EmptyLemmas::empty_laws))]
 fn looped_list<'a>(
-    members: &Members<'a>,
+    members: Members<'a>,
     stack: Stack<'a>,
     tree: Tree<'a>,
 ) -> Result<Reader<'a>, Stop>
-    ensures { IsStep result (looped_by (Listed members.now ∷ stack.entry) tree.entry) }
+    ensures { IsStep result (looped_by (Listed members.entry ∷ stack.entry) tree.entry) }
 {
-    if members.as_slice().is_empty() {
-        Ok(Reader {
-            stack,
-            mode: Mode::Each(tree),
-        })
-    } else {
-        Err(Stop::Bad)
+    let none = members.as_slice().is_empty();
+    drop(members);
+    if !none {
+        return Err(Stop::Bad);
     }
+    Ok(Reader {
+        stack,
+        mode: Mode::Each(tree),
+    })
 }
 
 // A `for` behind an operand and what waits on top.
 fn looped_at<'a>(frame: Frame<'a>, stack: Stack<'a>, tree: Tree<'a>) -> Result<Reader<'a>, Stop>
     ensures { IsStep result (looped_by (frame.entry ∷ stack.entry) tree.entry) }
 {
-    match frame {
-        Frame::Listed(members) => looped_list(&members, stack, tree),
+    match frame.waiting {
+        Waiting::Members(members) => looped_list(members, stack, tree),
         other => {
             drop(other);
             Err(Stop::Bad)
@@ -98,7 +100,7 @@ pub(crate) fn looped(operands: Operands<'_>) -> Result<Reader<'_>, Stop>
 {
     let Operands { stack, tree } = operands;
     match stack.pop() {
-        Some((frame, rest)) => looped_at(frame, rest, tree),
+        Some(top) => looped_at(top.frame, top.stack, tree),
         None => Err(Stop::Bad),
     }
 }
@@ -107,8 +109,8 @@ pub(crate) fn looped(operands: Operands<'_>) -> Result<Reader<'_>, Stop>
 fn braced_at<'a>(frame: Frame<'a>, stack: Stack<'a>, tree: Tree<'a>) -> Result<Reader<'a>, Stop>
     ensures { IsStep result (braced_by kept (frame.entry ∷ stack.entry) tree.entry) }
 {
-    match frame {
-        Frame::Keyed(entries, key) => Ok(Reader {
+    match frame.waiting {
+        Waiting::Entries(entries, key) => Ok(Reader {
             stack,
             mode: Mode::Held(Tree::tabled(entries.with(key, tree)?)),
         }),
@@ -125,7 +127,7 @@ pub(crate) fn braced(operands: Operands<'_>) -> Result<Reader<'_>, Stop>
 {
     let Operands { stack, tree } = operands;
     match stack.pop() {
-        Some((frame, rest)) => braced_at(frame, rest, tree),
+        Some(top) => braced_at(top.frame, top.stack, tree),
         None => Err(Stop::Bad),
     }
 }
@@ -175,7 +177,7 @@ pub(crate) fn valued<'a>(
     ensures { IsStep result (valued_of 128 stack.entry entries.entry key.entry sign.now) }
 {
     if is_mark(sign, b':') {
-        opened(Frame::Keyed(entries, key), stack)
+        opened(Frame::keyed(entries, key), stack)
     } else {
         Err(Stop::Bad)
     }
@@ -209,7 +211,10 @@ pub(crate) fn sourced<'a>(
     ensures { IsStep result (sourced_of 128 stack.entry member.entry variable.entry sign.now) }
 {
     if sign == b"in".as_slice() {
-        opened(Frame::Source(member, variable), stack)
+        opened(
+            Frame::single(Single::Source(variable.bytes()), member),
+            stack,
+        )
     } else {
         Err(Stop::Bad)
     }

@@ -1,9 +1,13 @@
 ghost use Rattle.std.specs.Prelude.{◌≡◌, ◌∷◌, [], ◌<◌, ◌≤◌, ◌+◌, length, IfOk, IfSome, OnOk, MatchOption, MatchResult, IsTrue, true, false, nat_le};
-ghost use Rattle.jl_syntax.specs.Machine.{wanted_by as wanted_by_of, wanted as wanted_of, is_bracket as is_bracket_of, depth as depth_of, binds as binds_of, top_binds as top_binds_of, operated as operated_of, kept, reduced as reduced_of, nested, prefixed as prefixed_of, begun as begun_of, infixed as infixed_of, is_source as is_source_of, top_is_source as top_is_source_of, conditioned as conditioned_of, picked_by, asked_by, opened_or, elsed_by, closed_by, ended_by, member_behind, parted_by, called as called_of, gone_on as gone_on_of, step as step_of, finished, whole_by, run};
+ghost use Rattle.jl_syntax.specs.Machine.{wanted as wanted_of, is_bracket as is_bracket_of, depth as depth_of, binds as binds_of, top_binds as top_binds_of, operated as operated_of, kept, reduced as reduced_of, nested, prefixed as prefixed_of, begun as begun_of, infixed as infixed_of, top_is_source as top_is_source_of, conditioned as conditioned_of, picked_by, asked_by, opened_or, elsed_by, closed_by, ended_by, member_behind, parted_by, called as called_of, gone_on as gone_on_of, step as step_of, finished, whole_by, run};
+ghost use Rattle.jl_syntax.specs.FrameForm.{bare_frame, single_frame, double_frame};
 ghost use Rattle.jl_syntax.specs.Steps.{IsStep, IsRead};
 ghost use Rattle.jl_syntax.specs.declared.machine.Mode.TheVariants.{Wanted};
 ghost use Rattle.jl_lexer.specs.Signs.{signs};
 
+use crate::frames::{
+    Bare, Double, Frame, Single, Waiting, binds, is_bracket, is_source, wanted_by,
+};
 use crate::joint::{Joint, read_joint};
 use crate::lists::{braced, emptied, keyed, looped, sourced, unkeyed, valued, varied};
 use crate::tree::{Entries, Members, Tree};
@@ -13,23 +17,6 @@ use jl_lexer::{
 };
 use std::alloc::{AllocError, Global};
 use std::marker::Model;
-
-/// What waits for an operand.
-#[derive(Drop)]
-pub(crate) enum Frame<'a> {
-    Bracket,
-    Behind(Prefix),
-    Operand(Operator, Tree<'a>),
-    Condition(Tree<'a>),
-    Otherwise(Tree<'a>, Tree<'a>),
-    Element(Tree<'a>),
-    Member(Function),
-    Bound(Tree<'a>),
-    Listed(Members<'a>),
-    Keyed(Entries<'a>, Key<'a>),
-    Source(Tree<'a>, Name<'a>),
-    Filter(Tree<'a>, Name<'a>, Tree<'a>),
-}
 
 /// What is wanted, or that an operand was just read.
 #[derive(Drop)]
@@ -52,11 +39,11 @@ pub(crate) struct Stack<'a> {
 
 impl<'a> Model for Stack<'a> {
     ghost use Rattle.std.specs.Prelude.{◌≡◌, ◌≤◌, List, reverse};
-    ghost use Rattle.jl_syntax.specs.declared.machine.Frame.{Frame};
+    ghost use Rattle.jl_syntax.specs.Frames.{Frame as Frames};
     ghost use Rattle.jl_syntax.specs.Machine.{depth as depth_of};
     ghost use Rattle.jl_syntax.specs.FrameCodes.{coded_frames};
 
-    ghost Value = { List Frame };
+    ghost Value = { List Frames };
 
     ghost coded = { coded_frames };
 
@@ -65,98 +52,66 @@ impl<'a> Model for Stack<'a> {
     ghost invariant = { λ s. (s.depth ≡ depth_of (reverse s.frames.items)) × (s.depth ≤ 128) };
 }
 
-fn wanted_by(frame: &Frame) -> u32
-    ensures { result ≡ wanted_by_of frame.now }
+fn operated_bare(alloc: Global, bare: Bare, last: Tree<'_>) -> Result<Tree<'_>, AllocError>
+    ensures { IfOk result (λ t. t ≡ operated_of kept (bare_frame bare) last.entry) }
 {
-    match frame {
-        Frame::Bracket => 0,
-        Frame::Behind(prefix) => prefix_level(*prefix),
-        Frame::Operand(operator, _) => own_level(*operator) + 1,
-        Frame::Condition(_) => 1,
-        Frame::Otherwise(_, _) => 0,
-        Frame::Element(_) => 0,
-        Frame::Member(_) => 0,
-        Frame::Bound(_) => 0,
-        Frame::Listed(_) => 0,
-        Frame::Keyed(_, _) => 0,
-        Frame::Source(_, _) => 1,
-        Frame::Filter(_, _, _) => 1,
+    match bare {
+        Bare::Behind(prefix) => Tree::before(alloc, prefix, last),
+        Bare::Bracket => Ok(last),
+        Bare::Member(_) => Ok(last),
     }
 }
 
-fn is_bracket(frame: &Frame) -> bool
-    ensures { result ≡ is_bracket_of frame.now }
+fn operated_single<'a>(
+    alloc: Global,
+    single: Single<'a>,
+    first: Tree<'a>,
+    last: Tree<'a>,
+) -> Result<Tree<'a>, AllocError>
+    ensures { IfOk result (λ t. t ≡ operated_of kept (single_frame single.entry first.entry) last.entry) }
 {
-    match frame {
-        Frame::Bracket => true,
-        Frame::Behind(_) => false,
-        Frame::Operand(_, _) => false,
-        Frame::Condition(_) => false,
-        Frame::Otherwise(_, _) => false,
-        Frame::Element(_) => true,
-        Frame::Member(_) => true,
-        Frame::Bound(_) => true,
-        Frame::Listed(_) => true,
-        Frame::Keyed(_, _) => true,
-        Frame::Source(_, _) => true,
-        Frame::Filter(_, _, _) => true,
+    match single {
+        Single::Operand(operator) => Tree::between(alloc, operator, first, last),
+        Single::Condition => Ok(last),
+        Single::Element => Ok(last),
+        Single::Bound => Ok(last),
+        Single::Source(_) => Ok(last),
     }
 }
 
-fn is_source(frame: &Frame) -> bool
-    ensures { result ≡ is_source_of frame.now }
+fn operated_double<'a>(
+    alloc: Global,
+    double: Double<'a>,
+    first: Tree<'a>,
+    second: Tree<'a>,
+    last: Tree<'a>,
+) -> Result<Tree<'a>, AllocError>
+    ensures { IfOk result (λ t. t ≡ operated_of kept (double_frame double.entry first.entry second.entry) last.entry) }
 {
-    match frame {
-        Frame::Bracket => false,
-        Frame::Behind(_) => false,
-        Frame::Operand(_, _) => false,
-        Frame::Condition(_) => false,
-        Frame::Otherwise(_, _) => false,
-        Frame::Element(_) => false,
-        Frame::Member(_) => false,
-        Frame::Bound(_) => false,
-        Frame::Listed(_) => false,
-        Frame::Keyed(_, _) => false,
-        Frame::Source(_, _) => true,
-        Frame::Filter(_, _, _) => false,
-    }
-}
-
-fn binds(level: u32, frame: &Frame) -> bool
-    ensures { result ≡ binds_of level frame.now }
-{
-    match frame {
-        Frame::Bracket => false,
-        Frame::Behind(prefix) => level <= prefix_level(*prefix),
-        Frame::Operand(operator, _) => level <= own_level(*operator),
-        Frame::Condition(_) => false,
-        Frame::Otherwise(_, _) => level == 0,
-        Frame::Element(_) => false,
-        Frame::Member(_) => false,
-        Frame::Bound(_) => false,
-        Frame::Listed(_) => false,
-        Frame::Keyed(_, _) => false,
-        Frame::Source(_, _) => false,
-        Frame::Filter(_, _, _) => false,
+    match double {
+        Double::Otherwise => Tree::choice(alloc, first, second, last),
+        Double::Filter(_) => Ok(last),
     }
 }
 
 fn operated<'a>(alloc: Global, frame: Frame<'a>, last: Tree<'a>) -> Result<Tree<'a>, AllocError>
     ensures { IfOk result (λ t. t ≡ operated_of kept frame.entry last.entry) }
 {
-    match frame {
-        Frame::Bracket => Ok(last),
-        Frame::Behind(prefix) => Tree::before(alloc, prefix, last),
-        Frame::Operand(operator, first) => Tree::between(alloc, operator, first, last),
-        Frame::Condition(_) => Ok(last),
-        Frame::Otherwise(first, condition) => Tree::choice(alloc, first, condition, last),
-        Frame::Element(_) => Ok(last),
-        Frame::Member(_) => Ok(last),
-        Frame::Bound(_) => Ok(last),
-        Frame::Listed(_) => Ok(last),
-        Frame::Keyed(_, _) => Ok(last),
-        Frame::Source(_, _) => Ok(last),
-        Frame::Filter(_, _, _) => Ok(last),
+    match frame.waiting {
+        Waiting::NoOperand(bare) => operated_bare(alloc, bare, last),
+        Waiting::OneOperand(single, first) => operated_single(alloc, single, first, last),
+        Waiting::TwoOperands(double, first, second) => {
+            operated_double(alloc, double, first, second, last)
+        }
+        Waiting::Members(members) => {
+            drop(members);
+            Ok(last)
+        }
+        Waiting::Entries(entries, key) => {
+            drop(key);
+            drop(entries);
+            Ok(last)
+        }
     }
 }
 
@@ -183,7 +138,7 @@ impl<'a> Stack<'a> {
         ensures { result ≡ wanted_of self.now }
     {
         match self.frames.last() {
-            Some(frame) => wanted_by(frame),
+            Some(frame) => wanted_by(frame.kind()),
             None => 0,
         }
     }
@@ -192,7 +147,7 @@ impl<'a> Stack<'a> {
         ensures { result ≡ top_binds_of level self.now }
     {
         match self.frames.last() {
-            Some(frame) => binds(level, frame),
+            Some(frame) => binds(level, frame.kind()),
             None => false,
         }
     }
@@ -201,7 +156,7 @@ impl<'a> Stack<'a> {
         ensures { result ≡ top_is_source_of self.now }
     {
         match self.frames.last() {
-            Some(frame) => is_source(frame),
+            Some(frame) => is_source(frame.kind()),
             None => false,
         }
     }
@@ -231,39 +186,53 @@ impl<'a> Stack<'a> {
     }
 
     /// The topmost frame and the others, where it binds before an operator.
-    fn pop_bound(self, level: u32) -> Result<(Frame<'a>, Stack<'a>), Stack<'a>>
-        ensures { MatchResult result (λ r. (self.entry ≡ r.0 ∷ r.1) × (binds_of level r.0 ≡ true)) (λ s. (s ≡ self.entry) × (top_binds_of level s ≡ false)) }
+    fn pop_bound(self, level: u32) -> Result<Top<'a>, Stack<'a>>
+        ensures { MatchResult result
+            (λ r. (self.entry ≡ r.frame ∷ r.stack) × (binds_of level r.frame ≡ true))
+            (λ s. (s ≡ self.entry) × (top_binds_of level s ≡ false)) }
     {
         if !self.top_binds(level) {
             return Err(self);
         }
         let Stack { mut frames, depth } = self;
         match frames.pop() {
-            Some(frame) => Ok((frame, Stack { frames, depth })),
+            Some(frame) => Ok(Top {
+                frame,
+                stack: Stack { frames, depth },
+            }),
             None => Err(Stack { frames, depth }),
         }
     }
 
     /// The topmost frame, and the others.
-    pub(crate) fn pop(self) -> Option<(Frame<'a>, Stack<'a>)>
-        ensures parts { MatchOption result (self.entry ≡ []) (λ r. self.entry ≡ r.0 ∷ r.1) }
-        ensures room { IfSome result (λ r. is_bracket_of r.0 ≡ true → depth_of r.1 < 128) }
+    pub(crate) fn pop(self) -> Option<Top<'a>>
+        ensures parts { MatchOption result (self.entry ≡ []) (λ r. self.entry ≡ r.frame ∷ r.stack) }
+        ensures room { IfSome result (λ r. is_bracket_of r.frame ≡ true → depth_of r.stack < 128) }
     {
         let Stack { mut frames, depth } = self;
         match frames.pop() {
             Some(frame) => {
-                let open = if is_bracket(&frame) { depth - 1 } else { depth };
-                Some((
-                    frame,
-                    Stack {
-                        frames,
-                        depth: open,
-                    },
-                ))
+                let open = if is_bracket(frame.kind()) {
+                    depth - 1
+                } else {
+                    depth
+                };
+                let stack = Stack {
+                    frames,
+                    depth: open,
+                };
+                Some(Top { frame, stack })
             }
             None => None,
         }
     }
+}
+
+/// The topmost frame, and those below it.
+#[derive(Drop)]
+pub(crate) struct Top<'a> {
+    pub(crate) frame: Frame<'a>,
+    pub(crate) stack: Stack<'a>,
 }
 
 /// The frames that are left, and the operand.
@@ -311,9 +280,9 @@ fn reduced<'a>(
     let mut tree = last;
     'operations: loop {
         match stack.pop_bound(level) {
-            Ok((frame, rest)) => {
-                tree = operated(alloc, frame, tree)?;
-                stack = rest;
+            Ok(top) => {
+                tree = operated(alloc, top.frame, tree)?;
+                stack = top.stack;
             }
             Err(stack) => return Ok(Operands { stack, tree }),
         }
@@ -344,7 +313,7 @@ fn prefixed<'a>(stack: Stack<'a>, prefix: Option<Prefix>) -> Result<Reader<'a>, 
         return Err(Stop::Bad);
     }
     Ok(Reader {
-        stack: stack.push(Frame::Behind(prefix))?,
+        stack: stack.push(Frame::bare(Bare::Behind(prefix)))?,
         mode: Mode::Wanted,
     })
 }
@@ -354,10 +323,10 @@ fn opened_with<'a>(alloc: Global, stack: Stack<'a>, sign: &'a [u8]) -> Result<Re
     ensures { IsStep result (opened_or 128 stack.entry sign.now) }
 {
     if is_mark(sign, b'(') {
-        return opened(Frame::Bracket, stack);
+        return opened(Frame::bare(Bare::Bracket), stack);
     }
     if is_mark(sign, b'[') {
-        return opened(Frame::Listed(Members::new(alloc)), stack);
+        return opened(Frame::listed(Members::new(alloc)), stack);
     }
     if is_mark(sign, b']') {
         return emptied(stack);
@@ -390,7 +359,7 @@ fn called<'a>(function: Function, stack: Stack<'a>, sign: &[u8]) -> Result<Reade
     ensures { IsStep result (called_of 128 function stack.entry sign.now) }
 {
     if is_mark(sign, b'(') {
-        opened(Frame::Member(function), stack)
+        opened(Frame::bare(Bare::Member(function)), stack)
     } else {
         Err(Stop::Bad)
     }
@@ -404,7 +373,7 @@ fn infixed<'a>(operator: Operator, operands: Operands<'a>) -> Result<Reader<'a>,
         return Err(Stop::Bad);
     }
     Ok(Reader {
-        stack: stack.push(Frame::Operand(operator, tree))?,
+        stack: stack.push(Frame::single(Single::Operand(operator), tree))?,
         mode: Mode::Wanted,
     })
 }
@@ -417,7 +386,7 @@ fn conditioned<'a>(stack: Stack<'a>, tree: Tree<'a>) -> Result<Reader<'a>, Stop>
         return Err(Stop::Bad);
     }
     Ok(Reader {
-        stack: stack.push(Frame::Condition(tree))?,
+        stack: stack.push(Frame::single(Single::Condition, tree))?,
         mode: Mode::Wanted,
     })
 }
@@ -427,9 +396,9 @@ fn picked_at<'a>(frame: Frame<'a>, stack: Stack<'a>, tree: Tree<'a>) -> Result<R
     requires { is_bracket_of frame ≡ true → depth_of stack < 128 }
     ensures { IsStep result (picked_by (frame.entry ∷ stack.entry) tree.entry) }
 {
-    match frame {
-        Frame::Source(member, variable) => Ok(Reader {
-            stack: stack.open(Frame::Filter(member, variable, tree))?,
+    match frame.waiting {
+        Waiting::OneOperand(Single::Source(variable), member) => Ok(Reader {
+            stack: stack.open(Frame::double(Double::Filter(variable), member, tree))?,
             mode: Mode::Wanted,
         }),
         other => {
@@ -443,7 +412,7 @@ fn picked<'a>(stack: Stack<'a>, tree: Tree<'a>) -> Result<Reader<'a>, Stop>
     ensures { IsStep result (picked_by stack.entry tree.entry) }
 {
     match stack.pop() {
-        Some((frame, rest)) => picked_at(frame, rest, tree),
+        Some(top) => picked_at(top.frame, top.stack, tree),
         None => Err(Stop::Bad),
     }
 }
@@ -463,9 +432,9 @@ fn asked(operands: Operands<'_>) -> Result<Reader<'_>, Stop>
 fn elsed_at<'a>(frame: Frame<'a>, stack: Stack<'a>, tree: Tree<'a>) -> Result<Reader<'a>, Stop>
     ensures { IsStep result (elsed_by (frame.entry ∷ stack.entry) tree.entry) }
 {
-    match frame {
-        Frame::Condition(first) => Ok(Reader {
-            stack: stack.push(Frame::Otherwise(first, tree))?,
+    match frame.waiting {
+        Waiting::OneOperand(Single::Condition, first) => Ok(Reader {
+            stack: stack.push(Frame::double(Double::Otherwise, first, tree))?,
             mode: Mode::Wanted,
         }),
         other => {
@@ -480,7 +449,7 @@ fn elsed(operands: Operands<'_>) -> Result<Reader<'_>, Stop>
 {
     let Operands { stack, tree } = operands;
     match stack.pop() {
-        Some((frame, rest)) => elsed_at(frame, rest, tree),
+        Some(top) => elsed_at(top.frame, top.stack, tree),
         None => Err(Stop::Bad),
     }
 }
@@ -494,16 +463,16 @@ fn closed_at<'a>(
 ) -> Result<Reader<'a>, Stop>
     ensures { IsStep result (closed_by kept (frame.entry ∷ stack.entry) tree.entry) }
 {
-    match frame {
-        Frame::Bracket => Ok(Reader {
+    match frame.waiting {
+        Waiting::NoOperand(Bare::Bracket) => Ok(Reader {
             stack,
             mode: Mode::Held(Tree::bracketed(alloc, tree)?),
         }),
-        Frame::Member(function) => Ok(Reader {
+        Waiting::NoOperand(Bare::Member(function)) => Ok(Reader {
             stack,
             mode: Mode::Held(Tree::call(alloc, function, tree)?),
         }),
-        Frame::Bound(first) => Ok(Reader {
+        Waiting::OneOperand(Single::Bound, first) => Ok(Reader {
             stack,
             mode: Mode::Held(Tree::span(alloc, first, tree)?),
         }),
@@ -519,7 +488,7 @@ fn closed<'a>(alloc: Global, operands: Operands<'a>) -> Result<Reader<'a>, Stop>
 {
     let Operands { stack, tree } = operands;
     match stack.pop() {
-        Some((frame, rest)) => closed_at(alloc, frame, rest, tree),
+        Some(top) => closed_at(alloc, top.frame, top.stack, tree),
         None => Err(Stop::Bad),
     }
 }
@@ -533,22 +502,22 @@ fn ended_at<'a>(
 ) -> Result<Reader<'a>, Stop>
     ensures { IsStep result (ended_by kept (frame.entry ∷ stack.entry) tree.entry) }
 {
-    match frame {
-        Frame::Element(whole) => Ok(Reader {
+    match frame.waiting {
+        Waiting::OneOperand(Single::Element, whole) => Ok(Reader {
             stack,
             mode: Mode::Held(Tree::index(alloc, whole, tree)?),
         }),
-        Frame::Listed(members) => Ok(Reader {
+        Waiting::Members(members) => Ok(Reader {
             stack,
             mode: Mode::Held(Tree::listed(members.with(tree)?)),
         }),
-        Frame::Source(member, variable) => Ok(Reader {
+        Waiting::OneOperand(Single::Source(variable), member) => Ok(Reader {
             stack,
-            mode: Mode::Held(Tree::each(alloc, member, variable, tree)?),
+            mode: Mode::Held(Tree::each(alloc, member, Name::new(variable), tree)?),
         }),
-        Frame::Filter(member, variable, source) => Ok(Reader {
+        Waiting::TwoOperands(Double::Filter(variable), member, source) => Ok(Reader {
             stack,
-            mode: Mode::Held(Tree::filtered(alloc, member, variable, source, tree)?),
+            mode: Mode::Held(Tree::filtered(alloc, member, Name::new(variable), source, tree)?),
         }),
         other => {
             drop(other);
@@ -562,7 +531,7 @@ fn ended<'a>(alloc: Global, operands: Operands<'a>) -> Result<Reader<'a>, Stop>
 {
     let Operands { stack, tree } = operands;
     match stack.pop() {
-        Some((frame, rest)) => ended_at(alloc, frame, rest, tree),
+        Some(top) => ended_at(alloc, top.frame, top.stack, tree),
         None => Err(Stop::Bad),
     }
 }
@@ -574,7 +543,7 @@ fn bounded<'a>(function: Function, stack: Stack<'a>, tree: Tree<'a>) -> Result<R
 {
     match function {
         Function::Range => Ok(Reader {
-            stack: stack.open(Frame::Bound(tree))?,
+            stack: stack.open(Frame::single(Single::Bound, tree))?,
             mode: Mode::Wanted,
         }),
         _ => Err(Stop::Bad),
@@ -586,13 +555,13 @@ fn parted_at<'a>(frame: Frame<'a>, stack: Stack<'a>, tree: Tree<'a>) -> Result<R
     requires { is_bracket_of frame ≡ true → depth_of stack < 128 }
     ensures { IsStep result (parted_by (frame.entry ∷ stack.entry) tree.entry) }
 {
-    match frame {
-        Frame::Member(function) => bounded(function, stack, tree),
-        Frame::Listed(members) => Ok(Reader {
-            stack: stack.open(Frame::Listed(members.with(tree)?))?,
+    match frame.waiting {
+        Waiting::NoOperand(Bare::Member(function)) => bounded(function, stack, tree),
+        Waiting::Members(members) => Ok(Reader {
+            stack: stack.open(Frame::listed(members.with(tree)?))?,
             mode: Mode::Wanted,
         }),
-        Frame::Keyed(entries, key) => Ok(Reader {
+        Waiting::Entries(entries, key) => Ok(Reader {
             stack,
             mode: Mode::Key(entries.with(key, tree)?),
         }),
@@ -608,7 +577,7 @@ fn parted(operands: Operands<'_>) -> Result<Reader<'_>, Stop>
 {
     let Operands { stack, tree } = operands;
     match stack.pop() {
-        Some((frame, rest)) => parted_at(frame, rest, tree),
+        Some(top) => parted_at(top.frame, top.stack, tree),
         None => Err(Stop::Bad),
     }
 }
@@ -626,7 +595,7 @@ fn gone_on<'a>(
             operator,
             reduced(alloc, left_level(operator), stack, tree)?,
         ),
-        Joint::Opening => opened(Frame::Element(tree), stack),
+        Joint::Opening => opened(Frame::single(Single::Element, tree), stack),
         Joint::If => asked(reduced(alloc, 1, stack, tree)?),
         Joint::Else => elsed(reduced(alloc, 1, stack, tree)?),
         Joint::For => looped(reduced(alloc, 0, stack, tree)?),
@@ -643,8 +612,8 @@ fn whole(operands: Operands<'_>) -> Result<Tree<'_>, Stop>
 {
     let Operands { stack, tree } = operands;
     match stack.pop() {
-        Some((frame, _rest)) => {
-            drop(frame);
+        Some(top) => {
+            drop(top);
             Err(Stop::Bad)
         }
         None => Ok(tree),
@@ -684,13 +653,11 @@ impl<'a> Reader<'a> {
     {
         let Reader { stack, mode } = self;
         match mode {
-            Mode::Wanted => Err(Stop::Bad),
-            Mode::Calling(_) => Err(Stop::Bad),
-            Mode::Key(_) => Err(Stop::Bad),
-            Mode::Colon(_, _) => Err(Stop::Bad),
-            Mode::Each(_) => Err(Stop::Bad),
-            Mode::Naming(_, _) => Err(Stop::Bad),
             Mode::Held(tree) => whole(reduced(alloc, 0, stack, tree)?),
+            other => {
+                drop(other);
+                Err(Stop::Bad)
+            }
         }
     }
 }

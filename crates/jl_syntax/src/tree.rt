@@ -181,6 +181,12 @@ fn kept(node: Node<'_>, height: u32) -> Tree<'_>
     Tree { height, node }
 }
 
+fn boxed(alloc: Global, tree: Tree<'_>) -> Result<Box<Tree<'_>>, AllocError>
+    ensures { IfOk result (λ b. b.value ≡ tree.entry) }
+{
+    Ok(Box::new(alloc, tree)?)
+}
+
 impl<'a> Tree<'a> {
     /// How high the tree is, up to 129.
     pub fn height(&self) -> u32
@@ -210,7 +216,7 @@ impl<'a> Tree<'a> {
         ensures { IfOk result (λ t. t ≡ kept_of (bracketed inner.entry)) }
     {
         let height = inner.height() + 1;
-        Ok(kept(Node::Bracketed(Box::new(alloc, inner)?), height))
+        Ok(kept(Node::Bracketed(boxed(alloc, inner)?), height))
     }
 
     pub(crate) fn before(
@@ -221,7 +227,7 @@ impl<'a> Tree<'a> {
         ensures { IfOk result (λ t. t ≡ kept_of (before prefix inner.entry)) }
     {
         let height = inner.height() + 1;
-        Ok(kept(Node::Before(prefix, Box::new(alloc, inner)?), height))
+        Ok(kept(Node::Before(prefix, boxed(alloc, inner)?), height))
     }
 
     pub(crate) fn between(
@@ -233,8 +239,8 @@ impl<'a> Tree<'a> {
         ensures { IfOk result (λ t. t ≡ kept_of (between operator left.entry right.entry)) }
     {
         let height = left.height().max(right.height()) + 1;
-        let left = Box::new(alloc, left)?;
-        let right = Box::new(alloc, right)?;
+        let left = boxed(alloc, left)?;
+        let right = boxed(alloc, right)?;
         Ok(kept(Node::Between(operator, left, right), height))
     }
 
@@ -247,9 +253,9 @@ impl<'a> Tree<'a> {
         ensures { IfOk result (λ t. t ≡ kept_of (choice first.entry condition.entry last.entry)) }
     {
         let height = first.height().max(condition.height().max(last.height())) + 1;
-        let first = Box::new(alloc, first)?;
-        let condition = Box::new(alloc, condition)?;
-        let last = Box::new(alloc, last)?;
+        let first = boxed(alloc, first)?;
+        let condition = boxed(alloc, condition)?;
+        let last = boxed(alloc, last)?;
         Ok(kept(Node::Choice(first, condition, last), height))
     }
 
@@ -261,8 +267,8 @@ impl<'a> Tree<'a> {
         ensures { IfOk result (λ t. t ≡ kept_of (index whole.entry at.entry)) }
     {
         let height = whole.height().max(at.height()) + 1;
-        let whole = Box::new(alloc, whole)?;
-        let at = Box::new(alloc, at)?;
+        let whole = boxed(alloc, whole)?;
+        let at = boxed(alloc, at)?;
         Ok(kept(Node::Index(whole, at), height))
     }
 
@@ -274,7 +280,7 @@ impl<'a> Tree<'a> {
         ensures { IfOk result (λ t. t ≡ kept_of (call function member.entry)) }
     {
         let height = member.height() + 1;
-        Ok(kept(Node::Call(function, Box::new(alloc, member)?), height))
+        Ok(kept(Node::Call(function, boxed(alloc, member)?), height))
     }
 
     pub(crate) fn span(
@@ -285,8 +291,8 @@ impl<'a> Tree<'a> {
         ensures { IfOk result (λ t. t ≡ kept_of (span first.entry end.entry)) }
     {
         let height = first.height().max(end.height()) + 1;
-        let first = Box::new(alloc, first)?;
-        let end = Box::new(alloc, end)?;
+        let first = boxed(alloc, first)?;
+        let end = boxed(alloc, end)?;
         Ok(kept(Node::Span(first, end), height))
     }
 
@@ -313,8 +319,8 @@ impl<'a> Tree<'a> {
         ensures { IfOk result (λ t. t ≡ kept_of (each member.entry variable.entry source.entry)) }
     {
         let height = member.height().max(source.height()) + 1;
-        let member = Box::new(alloc, member)?;
-        let source = Box::new(alloc, source)?;
+        let member = boxed(alloc, member)?;
+        let source = boxed(alloc, source)?;
         Ok(kept(Node::Each(member, variable, source), height))
     }
 
@@ -328,9 +334,9 @@ impl<'a> Tree<'a> {
         ensures { IfOk result (λ t. t ≡ kept_of (filtered member.entry variable.entry source.entry condition.entry)) }
     {
         let height = member.height().max(source.height().max(condition.height())) + 1;
-        let member = Box::new(alloc, member)?;
-        let source = Box::new(alloc, source)?;
-        let condition = Box::new(alloc, condition)?;
+        let member = boxed(alloc, member)?;
+        let source = boxed(alloc, source)?;
+        let condition = boxed(alloc, condition)?;
         Ok(kept(Node::Filtered(member, variable, source, condition), height))
     }
 }
