@@ -121,7 +121,7 @@ reads_over path m bytes old mid new is first second reads = subst (λ (k : List 
       named = reads.named;
       view = reads.view;
       node_is = reads.node_is;
-      bytes_are = reads.bytes_are;
+      has = reads.has;
     }
 
 -- the lines as far as the next warning

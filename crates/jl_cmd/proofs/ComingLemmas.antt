@@ -5,6 +5,7 @@ use Rattle.std.proofs.lemmas.List.{append_cancel_left}
 use Rattle.jl_text.specs.Paths.{PathView}
 use Rattle.jl_folder.specs.declared.moves.Move.{Move}
 use Rattle.jl_folder.specs.Views.{FolderView, state, moved}
+use Rattle.jl_folder.specs.Reading.{OpenedHas}
 use Rattle.jl_rely.specs.Steps.{OwnMoves}
 use Rattle.jl_rely.specs.Claims.{Called, GoesOn, Silent, Anywhere}
 use Rattle.jl_rely.proofs.Composed.{carried_stable, waits_called, then_called}
@@ -19,7 +20,6 @@ use Rattle.jl_store.specs.Asked.{Asked}
 use Rattle.jl_store.specs.Calling.{IsCalling, IsWritingCall, ClearsOnlyAnothers, PutsCall, PutsFiles, IsBeforeOutput}
 use Rattle.jl_store.specs.Keeping.{texts}
 use Rattle.jl_store.specs.Checking.{IsOfCode, code_path}
-use Rattle.jl_store.specs.Looking.{OpenedHas}
 use Rattle.jl_store.specs.Next.{entry_asked}
 use Rattle.jl_store.specs.Done.{HasDoneBut, DoesOrWarns}
 use Rattle.jl_protocol.specs.Proper.{IsProper}

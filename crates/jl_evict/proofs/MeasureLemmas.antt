@@ -99,8 +99,8 @@ access_of view bytes n front (inr (zero_is, none)) = inr (zero_is, λ m is. none
 pub accessed_read : (path : PathView) (bytes : List ℕ) (n : ℕ) (s : State) (moves : Trace) → ReadsNamed path 22 bytes s moves → IsAccessOf bytes n → HadAccess path n s moves
 accessed_read path bytes n s moves reads is = inl (
   reads.view.bytes,
-  record { before = reads.before; middle = reads.middle; later = reads.later; split = reads.split; node = reads.node; named = reads.named; view = reads.view; node_is = reads.node_is; bytes_are = refl },
-  access_of reads.view.bytes bytes n reads.bytes_are is,
+  record { before = reads.before; middle = reads.middle; later = reads.later; split = reads.split; node = reads.node; named = reads.named; view = reads.view; node_is = reads.node_is; has = refl },
+  access_of reads.view.bytes bytes n reads.has is,
 )
 
 pub accessed_none : (path : PathView) (s : State) → is_file s path ≡ false → HasAccess s path 0

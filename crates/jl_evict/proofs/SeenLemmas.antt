@@ -54,7 +54,7 @@ text_lasting path bytes s front moves back t =
       named = subst (λ (u : State). place_at u path ≡ Some (File t.node)) reach t.named;
       view = t.view;
       node_is = subst (λ (u : State). node_at u t.node ≡ Some t.view) reach' t.node_is;
-      bytes_are = t.bytes_are;
+      has = t.has;
     }
 
 pub access_lasting : (path : PathView) (n : ℕ) → IsLasting (HadAccess path n)
@@ -134,7 +134,7 @@ text_alone path bytes s moves none t =
     let first : t.before ≡ [] = front_none t.before (t.middle ++ t.later) split in
     let both : t.before ++ t.middle ≡ [] = front_none (t.before ++ t.middle) t.later (split ∙ sym (append_assoc t.before t.middle t.later)) in
     bytes_there s path t.node t.view (subst (λ (b : Trace). place_at (run s b) path ≡ Some (File t.node)) first t.named) (subst (λ (b : Trace). node_at (run s b) t.node ≡ Some t.view) both t.node_is)
-    ∙ ap (λ (b : List ℕ). Some b) t.bytes_are
+    ∙ ap (λ (b : List ℕ). Some b) t.has
 
 access_alone : (path : PathView) (n : ℕ) (s : State) (moves : Trace) → moves ≡ [] → HadAccess path n s moves → HasAccess s path n
 access_alone path n s moves none (inl (bytes, text, is)) = has_access s path bytes n (text_alone path bytes s moves none text) is

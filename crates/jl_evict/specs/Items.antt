@@ -4,9 +4,8 @@ use Rattle.std.specs.Option.{option_map_or}
 use Rattle.jl_text.specs.Paths.{PathView, text_of}
 use Rattle.jl_text.specs.Texts.{is_name}
 use Rattle.jl_folder.specs.declared.listing.Name.{Name}
-use Rattle.jl_folder.specs.declared.moves.Node.{Node}
-use Rattle.jl_folder.specs.declared.moves.Place.TheVariants.{File}
-use Rattle.jl_folder.specs.State.{State, Trace, AtSome, AtEach, place_at, node_at, is_folder, is_file, bytes_at, run}
+use Rattle.jl_folder.specs.Reading.{OpenedHas}
+use Rattle.jl_folder.specs.State.{State, Trace, AtSome, AtEach, is_folder, is_file, bytes_at}
 use Rattle.jl_folder.specs.Listing.{ListsNames}
 use Rattle.jl_entry.specs.declared.names.EntryFile.TheVariants.{Access}
 use Rattle.jl_entry.specs.Moments.{IsAccess}
@@ -74,16 +73,8 @@ abbrev pub HadBytes : PathView → List Name → ℕ → State → Trace → Typ
 HadBytes folder names n s moves = (sizes : List ℕ) × HadSizes folder names sizes s moves × (n ≡ held (sum_by (λ k. k) sizes))
 
 -- the path named a node, and at that state or a later one the node had these bytes
-pub record HadText (path : PathView) (bytes : List ℕ) (s : State) (moves : Trace) : Type 0 where
-  pub before : Trace
-  pub middle : Trace
-  pub later : Trace
-  pub split : moves ≡ before ++ (middle ++ later)
-  pub node : ℕ
-  pub named : place_at (run s before) path ≡ Some (File node)
-  pub view : Node
-  pub node_is : node_at (run s (before ++ middle)) node ≡ Some view
-  pub bytes_are : view.bytes ≡ bytes
+abbrev pub HadText : PathView → List ℕ → State → Trace → Type 0
+HadText path bytes s moves = OpenedHas path (λ held. held ≡ bytes) s moves
 
 -- the moment that bytes are the text of, or 0
 abbrev pub IsAccessOf : List ℕ → ℕ → Type 0

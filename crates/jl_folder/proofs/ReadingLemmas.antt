@@ -165,7 +165,7 @@ reads_named a b₁ b₂ b₃ path most number bytes call w v reads =
       named = call.answer.named;
       view = read.view;
       node_is = ap (λ s. node_at s call.answer.node) (run-append (state a) call.others read.before ∙ ap (λ s. run s read.before) (sym (waits_state a b₁ u))) ∙ read.node_is;
-      bytes_are = read.bytes_are;
+      has = read.bytes_are;
     }
 
 pub reads_file : (a b₁ b₂ b₃ : FolderView) (path : PathView) (most number : ℕ) (r : OpenRead) → Call a b₁ (OpensNode path number b₁.opens) → Waits b₁ b₂ → Waits b₂ b₃ → ReadsOpen number most r b₁ b₂ → ReadsFile path most (file_of r) (state a) (moved a b₃)

@@ -32,8 +32,8 @@ ReadsOpen number most (open_read.Bytes bytes) old new = (file : OpenFile) → ol
 ReadsOpen number most open_read.Failed old new = Unit {0}
 ReadsOpen number most open_read.NoMemory old new = Unit {0}
 
--- at one state of the call the path named a node, and at a later one, or the same, the node had these bytes, or began with them where no more are wanted
-pub record ReadsNamed (path : PathView) (most : ℕ) (bytes : List ℕ) (s : State) (moves : Trace) : Type 0 where
+-- at one state of the call the path named a node, whose bytes had P at that state or at a later one
+pub record OpenedHas (path : PathView) (P : List ℕ → Type 0) (s : State) (moves : Trace) : Type 0 where
   pub before : Trace
   pub middle : Trace
   pub later : Trace
@@ -42,7 +42,11 @@ pub record ReadsNamed (path : PathView) (most : ℕ) (bytes : List ℕ) (s : Sta
   pub named : place_at (run s before) path ≡ Some (File node)
   pub view : Node
   pub node_is : node_at (run s (before ++ middle)) node ≡ Some view
-  pub bytes_are : bytes ≡ take most view.bytes
+  pub has : P view.bytes
+
+-- such a node had these bytes, or began with them where no more are wanted
+abbrev pub ReadsNamed : PathView → ℕ → List ℕ → State → Trace → Type 0
+ReadsNamed path most bytes s moves = OpenedHas path (λ held. bytes ≡ take most held) s moves
 
 -- what `read_file` answers
 abbrev pub ReadsFile : PathView → ℕ → FileRead → State → Trace → Type 0

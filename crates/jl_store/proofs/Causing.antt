@@ -5,6 +5,7 @@ use Rattle.jl_text.specs.Paths.{PathView}
 use Rattle.jl_folder.specs.State.{State, Trace, AtSome, place_at, node_at, run}
 use Rattle.jl_folder.specs.Views.{FolderView, FolderKeeps, state, moved}
 use Rattle.jl_folder.proofs.Traces.{run-append}
+use Rattle.jl_folder.specs.Reading.{OpenedHas}
 use Rattle.jl_value.specs.Key.{key_of}
 use Rattle.jl_rely.specs.Steps.{AllSteps}
 use Rattle.jl_rely.specs.Claims.{GoesOn, Anywhere}
@@ -17,7 +18,6 @@ use Rattle.jl_protocol.specs.Tidy.{IsTidy}
 use Rattle.jl_protocol.proofs.Kills.{tidy_at_end}
 use Rattle.jl_clear.proofs.DoingLemmas.{rose_later, later_rose}
 use Rattle.jl_store.specs.Asked.{Asked, output_asked}
-use Rattle.jl_store.specs.Looking.{OpenedHas}
 use Rattle.jl_store.specs.Warned.{IsOrderly, UsesCall, IsCaused, AreCaused, Warns}
 use Rattle.jl_store.specs.Parts.{AreWarned, IsCausedFrom, WarnsFrom}
 use Rattle.jl_store.specs.declared.memory.WarnKind.{WarnKind}

@@ -6,7 +6,7 @@ use Rattle.jl_folder.specs.declared.moves.Move.TheVariants.{MakeDir, Create, App
 use Rattle.jl_folder.specs.State.{State, Trace, AtSome, is_file}
 use Rattle.jl_folder.specs.Views.{FolderView, FolderAnswers, state, moved}
 use Rattle.jl_folder.specs.Calls.{Waits}
-use Rattle.jl_folder.specs.Reading.{ReadsNamed}
+use Rattle.jl_folder.specs.Reading.{ReadsNamed, OpenedHas}
 use Rattle.jl_folder.proofs.Frames.{answers_none, answers_next, answers_as}
 use Rattle.jl_entry.specs.Names.{Final, code_of, IsFinal, IsTemp, IsFunctionFolder}
 use Rattle.jl_entry.proofs.NameFacts.{final_one_way}
@@ -24,7 +24,6 @@ use Rattle.jl_text.specs.Counts.{Rose}
 use Rattle.jl_clear.proofs.DoingLemmas.{rose_later, later_rose}
 use Rattle.jl_store.specs.Doing.{IsMaking, IsClearing}
 use Rattle.jl_store.specs.Kinds.{IsFor, RenamesThis, PutsThis}
-use Rattle.jl_store.specs.Looking.{OpenedHas}
 use Rattle.jl_store.specs.Publishing.{EndsIn}
 use Rattle.jl_store.specs.Checking.{IsOfCode, IsHeld, Holds, AreFiles, IsDone, IsUnfitHeld, Comes, Stores, IsWriting, IsReplacing, MovesFor, IsChecking, Writes, Replaces, Stored, Checks, function_path, code_path, code_temp}
 use Rattle.jl_store.specs.declared.checks.CodeCheck.{CodeCheck}
@@ -42,10 +41,10 @@ pub holds_read : (path : PathView) (code bytes : List ℕ) (h : Held) (s : State
 holds_read path code bytes h s moves reads compared = by_case h compared
   where
     by_case : (h' : Held) → IsHeld h' bytes code → Holds path code h' s moves
-    by_case held.Same j = read_has path bytes (IsOfCode code) s moves reads (subst (IsOfCode code) (read_whole 16777216 bytes reads.view.bytes reads.bytes_are j.0) j)
+    by_case held.Same j = read_has path bytes (IsOfCode code) s moves reads (subst (IsOfCode code) (read_whole 16777216 bytes reads.view.bytes reads.has j.0) j)
     by_case held.Absent j = absurd j
     by_case held.Other j =
-        read_has path bytes (λ b. IsOfCode code b → ⊥) s moves reads (λ of. j (subst (IsOfCode code) (sym (read_short 16777216 bytes reads.view.bytes reads.bytes_are of.0)) of))
+        read_has path bytes (λ b. IsOfCode code b → ⊥) s moves reads (λ of. j (subst (IsOfCode code) (sym (read_short 16777216 bytes reads.view.bytes reads.has of.0)) of))
     by_case held.Fault j = absurd j
     by_case held.NoMemory j = absurd j
 

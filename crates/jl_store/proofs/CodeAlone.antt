@@ -9,6 +9,7 @@ use Rattle.jl_folder.specs.declared.moves.Move.{Move}
 use Rattle.jl_folder.specs.State.{State, Trace, place_at, node_at, bytes_of, is_file, is_folder_place, after, run}
 use Rattle.jl_folder.specs.Views.{FolderView, state, moved}
 use Rattle.jl_folder.specs.Calls.{Waits}
+use Rattle.jl_folder.specs.Reading.{OpenedHas}
 use Rattle.jl_entry.specs.Names.{code_of, IsFinal, IsTemp, IsStoreFolder, code_part, suffix, IsFunctionFolder}
 use Rattle.jl_entry.proofs.NameFacts.{final_not_folder, temp_not_folder}
 use Rattle.jl_rely.specs.Steps.{StepFact, AllSteps, Throughout, IsLone}
@@ -17,7 +18,6 @@ use Rattle.jl_clear.proofs.Folders.{entry_in, entry_place}
 use Rattle.jl_clear.proofs.Listings.{front_none, no_moves}
 use Rattle.jl_store.specs.Doing.{IsPrefix}
 use Rattle.jl_store.specs.Publishing.{IsPublished}
-use Rattle.jl_store.specs.Looking.{OpenedHas}
 use Rattle.jl_store.specs.Checking.{IsOfCode, Holds, AreFiles, IsDone, Comes, check_of, function_path, code_path, code_temp}
 use Rattle.jl_store.specs.Next.{FileHas, IsInEntry, WritesCode, ReplacesCode, ChecksAlone}
 use Rattle.jl_store.specs.Alone.{HasFolders, HasNoEntries, LeavesCode}

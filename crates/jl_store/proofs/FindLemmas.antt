@@ -2,7 +2,7 @@
 use Rattle.std.proofs.Common.{◌≡◌, ℕ, List, Some, take, sym, ap, subst, ◌∙◌}
 use Rattle.jl_text.specs.Paths.{PathView}
 use Rattle.jl_folder.specs.State.{State, Trace, IsTrace, bytes_at}
-use Rattle.jl_folder.specs.Reading.{ReadsNamed, ReadsFile}
+use Rattle.jl_folder.specs.Reading.{ReadsNamed, ReadsFile, OpenedHas}
 use Rattle.jl_folder.specs.declared.read.FileRead.{FileRead}
 use Rattle.jl_folder.specs.declared.read.FileRead.TheVariants as file_read
 use Rattle.jl_entry.specs.Names.{Final, IsFinal}
@@ -10,7 +10,6 @@ use Rattle.jl_rely.specs.Steps.{AllSteps}
 use Rattle.jl_protocol.specs.Whole.{IsWhole}
 use Rattle.jl_protocol.specs.Proper.{IsProper}
 use Rattle.jl_protocol.specs.Tidy.{IsTidy}
-use Rattle.jl_store.specs.Looking.{OpenedHas}
 use Rattle.jl_store.specs.Reading.{FindsWhole, FindsFinal}
 use Rattle.jl_store.proofs.LookTidy.{opened_whole, opened_then}
 use Rattle.jl_store.proofs.LookLemmas.{read_short, read_has}
@@ -20,7 +19,7 @@ module _ (root : PathView) (x : Final) (path : PathView) (final : IsFinal root x
   unfolding IsWhole
   finds_bytes bytes reads tidy all =
       let P : List ℕ → Type 0 = λ b. bytes ≡ take 16777217 b in
-      let opened : OpenedHas path P s moves = read_has path bytes P s moves reads reads.bytes_are in
+      let opened : OpenedHas path P s moves = read_has path bytes P s moves reads reads.has in
       let whole = opened_whole root x path final s moves may tidy all P opened in
       let same : bytes ≡ opened.view.bytes = read_short 16777216 bytes opened.view.bytes whole.0 whole.1.0 in
       record {

@@ -8,7 +8,7 @@ use Rattle.jl_value.specs.declared.key.Key.{Key}
 use Rattle.jl_folder.specs.State.{State, Trace}
 use Rattle.jl_folder.specs.Views.{FolderView}
 use Rattle.jl_text.specs.Counts.{Rose}
-use Rattle.jl_folder.specs.Reading.{ReadsNamed}
+use Rattle.jl_folder.specs.Reading.{ReadsNamed, OpenedHas}
 use Rattle.jl_entry.specs.Entry.{Members, IsOther}
 use Rattle.jl_protocol.specs.Whole.{most_bytes}
 use Rattle.jl_store.specs.declared.found.Found.{Found}
@@ -18,7 +18,7 @@ use Rattle.jl_store.specs.declared.memory.WarnKind.{WarnKind}
 use Rattle.jl_store.specs.declared.memory.WarnKind.TheVariants.{LoadFault, NotMine, Damaged}
 use Rattle.jl_store.specs.declared.memory.Warning.{Warning}
 use Rattle.jl_store.specs.Asked.{Asked}
-use Rattle.jl_store.specs.Looking.{IsStored, IsReadable, IsJudged, OpenedHas, Finds, FindsAsked, Missing, absent, failed, other, damaged, warning, warnings_for, IsMissing, Looks, IsMiss, IsSettled}
+use Rattle.jl_store.specs.Looking.{IsStored, IsReadable, IsJudged, Finds, FindsAsked, Missing, absent, failed, other, damaged, warning, warnings_for, IsMissing, Looks, IsMiss, IsSettled}
 
 -- all was read, where fewer bytes were read than were wanted
 pub read_whole : (m : ℕ) (bytes whole : List ℕ) → bytes ≡ take (m + 1) whole → length bytes ≤ m → bytes ≡ whole
@@ -47,7 +47,7 @@ pub finds_read : (path : PathView) (code : List ℕ) (ps : Members) (bytes : Lis
 finds_read path code ps bytes r s moves reads judged = by_case r judged
   where
     whole : length bytes ≤ 16777216 → bytes ≡ reads.view.bytes
-    whole le = read_whole 16777216 bytes reads.view.bytes reads.bytes_are le
+    whole le = read_whole 16777216 bytes reads.view.bytes reads.has le
 
     by_case : (r' : Found) → IsJudged r' bytes code ps → Finds path code ps r' s moves
     by_case (found.Value v) j = read_has path bytes (λ b. IsStored b code ps (tree_of v)) s moves reads (subst (λ b. IsStored b code ps (tree_of v)) (whole j.0) j)
@@ -55,7 +55,7 @@ finds_read path code ps bytes r s moves reads judged = by_case r judged
     by_case found.NotMine j = read_has path bytes (λ b. (length b ≤ most_bytes) × IsOther b code ps) s moves reads (subst (λ b. (length b ≤ most_bytes) × IsOther b code ps) (whole j.0) j)
     by_case found.Damaged j =
         read_has path bytes (λ b. IsReadable b → ⊥) s moves reads
-        (λ readable. j (subst IsReadable (sym (read_short 16777216 bytes reads.view.bytes reads.bytes_are readable.0)) readable))
+        (λ readable. j (subst IsReadable (sym (read_short 16777216 bytes reads.view.bytes reads.has readable.0)) readable))
     by_case found.Fault j = absurd j
     by_case found.NoMemory j = tt
 

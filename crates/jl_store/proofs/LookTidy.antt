@@ -10,6 +10,7 @@ use Rattle.jl_folder.specs.declared.moves.Place.TheVariants.{Folder, File}
 use Rattle.jl_folder.specs.State.{State, Trace, AtSome, IsTrace, place_at, is_file, is_file_place, bytes_at, bytes_of, run}
 use Rattle.jl_folder.specs.Views.{FolderView, state, moved}
 use Rattle.jl_folder.proofs.Traces.{run-append}
+use Rattle.jl_folder.specs.Reading.{OpenedHas}
 use Rattle.jl_entry.specs.Names.{Final, IsFinal}
 use Rattle.jl_entry.specs.Entry.{IsEntry, IsEntryOf, IsOther}
 use Rattle.jl_entry.proofs.Entries.{entry_once}
@@ -27,7 +28,7 @@ use Rattle.jl_store.specs.declared.found.Look.TheVariants as look
 use Rattle.jl_store.specs.declared.memory.WarnKind.TheVariants.{LoadFault, NotMine, Damaged}
 use Rattle.jl_store.specs.declared.memory.Warning.{Warning}
 use Rattle.jl_store.specs.Asked.{Asked, output_of, output_asked}
-use Rattle.jl_store.specs.Looking.{IsStored, IsReadable, StandsWith, Stands, OpenedHas, Missing, absent, failed, other, damaged, warnings_for, IsMissing, Looks, LooksTidy, IsAnswered}
+use Rattle.jl_store.specs.Looking.{IsStored, IsReadable, StandsWith, Stands, Missing, absent, failed, other, damaged, warnings_for, IsMissing, Looks, LooksTidy, IsAnswered}
 use Rattle.jl_store.specs.Trust.{IsTrusted}
 use Rattle.jl_store.specs.Warned.{IsOrderly}
 use Rattle.jl_store.proofs.LookLemmas.{kind_same, one_more}

@@ -8,6 +8,7 @@ use Rattle.jl_folder.specs.State.{State, Event, Trace, IsTrace, place_at, is_fol
 use Rattle.jl_folder.specs.Views.{FolderView, state, moved}
 use Rattle.jl_folder.specs.Calls.{Waits}
 use Rattle.jl_folder.proofs.Traces.{run-append}
+use Rattle.jl_folder.specs.Reading.{OpenedHas}
 use Rattle.jl_entry.specs.Names.{code_part, suffix}
 use Rattle.jl_entry.specs.declared.names.EntryFile.TheVariants.{Output}
 use Rattle.jl_rely.specs.Steps.{AllSteps, OwnMoves}
@@ -24,7 +25,6 @@ use Rattle.jl_clear.proofs.Paths.{parent_in}
 use Rattle.jl_store.specs.Asked.{Asked, output_asked}
 use Rattle.jl_store.specs.Checking.{UsesCode, Checks, function_path, code_path, code_temp}
 use Rattle.jl_store.specs.Keeping.{entry_path}
-use Rattle.jl_store.specs.Looking.{OpenedHas}
 use Rattle.jl_store.specs.Publishing.{EndsIn}
 use Rattle.jl_store.specs.Next.{entry_asked}
 use Rattle.jl_store.specs.Warned.{IsOrderly, UsesCall}

@@ -9,6 +9,7 @@ use Rattle.jl_folder.specs.State.{State, Trace, IsForeign, IsTrace, place_at, is
 use Rattle.jl_folder.specs.Views.{FolderView, state, moved}
 use Rattle.jl_folder.specs.Calls.{Waits}
 use Rattle.jl_folder.proofs.Traces.{run-append}
+use Rattle.jl_folder.specs.Reading.{OpenedHas}
 use Rattle.jl_entry.specs.Names.{code_part}
 use Rattle.jl_rely.specs.Steps.{AllSteps}
 use Rattle.jl_rely.specs.Claims.{GoesOn, Moves}
@@ -24,7 +25,6 @@ use Rattle.jl_protocol.proofs.Kills.{tidy_at_end}
 use Rattle.jl_clear.proofs.Paths.{parent_in}
 use Rattle.jl_store.specs.Doing.{IsPrefix, IsEmptying, IsClearing}
 use Rattle.jl_store.specs.Kinds.{UsesNames}
-use Rattle.jl_store.specs.Looking.{OpenedHas}
 use Rattle.jl_store.specs.Checking.{AreFiles, Holds, UsesCode, check_of}
 use Rattle.jl_store.specs.declared.files.Published.{Published}
 use Rattle.jl_store.specs.declared.files.Published.TheVariants as published

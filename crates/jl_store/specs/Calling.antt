@@ -3,6 +3,7 @@ use Rattle.std.specs.Prelude.{◌≡◌, ◌⊎◌, ℕ, List, ⊤}
 use Rattle.jl_folder.specs.declared.moves.Move.{Move}
 use Rattle.jl_folder.specs.State.{State, Trace}
 use Rattle.jl_folder.specs.Views.{FolderView, state, moved}
+use Rattle.jl_folder.specs.Reading.{OpenedHas}
 use Rattle.jl_streams.specs.Views.{HostView}
 use Rattle.jl_value.specs.Tree.{Tree}
 use Rattle.jl_value.specs.Form.{tree_of}
@@ -18,7 +19,6 @@ use Rattle.jl_store.specs.Asked.{Asked}
 use Rattle.jl_store.specs.Kinds.{IsFor, RenamesThis}
 use Rattle.jl_store.specs.Checking.{IsOfCode, IsWriting, function_path, code_path, code_temp}
 use Rattle.jl_store.specs.Keeping.{Entry, IsKeeping, IsMakingEntry, InOrder, RenamesEntry, PutsEntry, last_of, temp_of, texts}
-use Rattle.jl_store.specs.Looking.{OpenedHas}
 use Rattle.jl_store.specs.Next.{entry_asked, AreTimed}
 use Rattle.jl_store.specs.declared.cached.Cached.{Cached}
 use Rattle.jl_store.specs.declared.cached.Cached.TheVariants.{Hit, Computed, Error, NoMemory}

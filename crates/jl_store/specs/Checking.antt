@@ -6,6 +6,7 @@ use Rattle.jl_folder.specs.declared.moves.Move.{Move}
 use Rattle.jl_folder.specs.declared.moves.Move.TheVariants.{Rename}
 use Rattle.jl_folder.specs.State.{State, Trace, AtSome, is_file}
 use Rattle.jl_folder.specs.Views.{FolderView, FolderAnswers, state, moved}
+use Rattle.jl_folder.specs.Reading.{OpenedHas}
 use Rattle.jl_entry.specs.Codes.{IsSameCode}
 use Rattle.jl_entry.specs.Names.{Final, code_of, IsFinal, IsTemp, below, final_parts, temp_parts, IsFunctionFolder}
 use Rattle.jl_rely.specs.Steps.{AllSteps, OwnMoves}
@@ -17,7 +18,6 @@ use Rattle.jl_protocol.specs.Tidy.{IsTidy}
 use Rattle.jl_store.specs.Doing.{IsPrefix, IsMaking, IsClearing}
 use Rattle.jl_store.specs.Kinds.{IsFor, PutsThis}
 use Rattle.jl_store.specs.Publishing.{EndsIn}
-use Rattle.jl_store.specs.Looking.{OpenedHas}
 use Rattle.jl_store.specs.declared.files.Published.{Published}
 use Rattle.jl_store.specs.declared.files.Published.TheVariants as published
 use Rattle.jl_store.specs.declared.checks.CodeCheck.{CodeCheck}

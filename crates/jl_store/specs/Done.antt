@@ -3,11 +3,11 @@ use Rattle.std.specs.Prelude.{◌≡◌, ◌⊎◌, List, [], ◌∷◌, ◌++�
 use Rattle.jl_folder.specs.declared.moves.Move.TheVariants.{Rename}
 use Rattle.jl_folder.specs.State.{State, Trace, AtSome, is_file}
 use Rattle.jl_folder.specs.Views.{FolderView, state, moved}
+use Rattle.jl_folder.specs.Reading.{OpenedHas}
 use Rattle.jl_entry.specs.declared.names.EntryFile.TheVariants.{Access}
 use Rattle.jl_store.specs.Asked.{Asked, output_asked}
 use Rattle.jl_store.specs.Checking.{IsOfCode, code_path, code_temp}
 use Rattle.jl_store.specs.Keeping.{Includes, HasPut, HasPutAll}
-use Rattle.jl_store.specs.Looking.{OpenedHas}
 use Rattle.jl_store.specs.Next.{entry_asked}
 use Rattle.jl_store.specs.declared.cached.Cached.{Cached}
 use Rattle.jl_store.specs.declared.cached.Cached.TheVariants as cached

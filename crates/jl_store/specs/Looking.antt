@@ -1,14 +1,13 @@
 -- What a look into the cache tells, whatever others do.
-use Rattle.std.specs.Prelude.{◌≡◌, ◌≢◌, ◌≤◌, ◌⊎◌, ℕ, false, List, [], ◌∷◌, ◌++◌, length, Some, ⊤}
+use Rattle.std.specs.Prelude.{◌≡◌, ◌≢◌, ◌≤◌, ◌⊎◌, ℕ, false, List, [], ◌∷◌, length, Some, ⊤}
 use Rattle.jl_text.specs.Paths.{PathView}
 use Rattle.jl_value.specs.Tree.{Tree}
 use Rattle.jl_value.specs.Form.{tree_of}
 use Rattle.jl_value.specs.Key.{key_of}
 use Rattle.jl_value.specs.Library.{value}
 use Rattle.jl_value.specs.declared.key.Key.{Key}
-use Rattle.jl_folder.specs.declared.moves.Place.TheVariants.{File}
-use Rattle.jl_folder.specs.declared.moves.Node.{Node}
-use Rattle.jl_folder.specs.State.{State, Trace, AtSome, place_at, node_at, is_file, bytes_at, run}
+use Rattle.jl_folder.specs.Reading.{OpenedHas}
+use Rattle.jl_folder.specs.State.{State, Trace, AtSome, is_file, bytes_at}
 use Rattle.jl_folder.specs.Views.{FolderView, state, moved}
 use Rattle.jl_text.specs.Counts.{Rose}
 use Rattle.jl_entry.specs.Entry.{Members, IsEntryOf, IsEntry, IsOther}
@@ -50,18 +49,6 @@ IsJudged found.NotMine bytes code ps = (length bytes ≤ most_bytes) × IsOther 
 IsJudged found.Damaged bytes code ps = IsReadable bytes → ⊥
 IsJudged found.Fault bytes code ps = ⊥
 IsJudged found.NoMemory bytes code ps = ⊤
-
--- at one step of the call the path named a node, whose bytes had P at that step or at a later one
-pub record OpenedHas (path : PathView) (P : List ℕ → Type 0) (s : State) (moves : Trace) : Type 0 where
-  pub before : Trace
-  pub middle : Trace
-  pub later : Trace
-  pub split : moves ≡ before ++ (middle ++ later)
-  pub node : ℕ
-  pub named : place_at (run s before) path ≡ Some (File node)
-  pub view : Node
-  pub node_is : node_at (run s (before ++ middle)) node ≡ Some view
-  pub has : P view.bytes
 
 -- what stands under an output's name
 abbrev pub Finds : PathView → List ℕ → Members → Found → State → Trace → Type 0
