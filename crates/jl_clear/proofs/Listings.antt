@@ -8,7 +8,7 @@ use Rattle.jl_folder.specs.declared.moves.Place.TheVariants.{Folder, File}
 use Rattle.jl_folder.specs.declared.listing.Name.{Name}
 use Rattle.jl_folder.specs.State.{State, IsState, Trace, AtSome, AtEach, IsTrace, place_at, is_folder, is_file, is_folder_place, is_file_place, run}
 use Rattle.jl_folder.specs.Views.{FolderView, FolderAnswers, state, moved}
-use Rattle.jl_folder.specs.Listing.{Stands, ListsNames}
+use Rattle.jl_folder.specs.Listing.{StandsRight, ListsNames}
 use Rattle.jl_folder.specs.Calls.{Waits}
 use Rattle.jl_folder.proofs.Frames.{answers_next, answers_as}
 use Rattle.jl_entry.specs.Names.{IsStoreName, IsStoreFolder, IsBelow}
@@ -51,7 +51,7 @@ goes_on [] = false
 goes_on (x ∷ xs) = true
 
 -- where a file stands inside a folder, the first part on the way to it stands right in it
-stands_first : (s : State) → IsState s → (folder : PathView) (part : List ℕ) (rest : PathView) → part ≢ [] → is_file s (folder ++ part ∷ rest) ≡ true → Stands s folder (record { part = part; folder = goes_on rest })
+stands_first : (s : State) → IsState s → (folder : PathView) (part : List ℕ) (rest : PathView) → part ≢ [] → is_file s (folder ++ part ∷ rest) ≡ true → StandsRight s folder (record { part = part; folder = goes_on rest })
 stands_first s ok folder part [] named is =
     let there = file_there (place_at s (folder ++ part ∷ [])) is in
     record { place = there.0; place_is = there.1; kind = there.2; named = named }
@@ -69,7 +69,7 @@ stands_first s ok folder part (x ∷ xs) named is =
         cc
 
 -- and so does what is on the way to a folder there, and that folder
-stands_folder : (s : State) → IsState s → (folder : PathView) (part : List ℕ) (rest : PathView) → part ≢ [] → is_folder s (folder ++ part ∷ rest) ≡ true → (kind : Bool) × Stands s folder (record { part = part; folder = kind })
+stands_folder : (s : State) → IsState s → (folder : PathView) (part : List ℕ) (rest : PathView) → part ≢ [] → is_folder s (folder ++ part ∷ rest) ≡ true → (kind : Bool) × StandsRight s folder (record { part = part; folder = kind })
 stands_folder s ok folder part rest named is =
     let there = folder_there (place_at s (folder ++ part ∷ rest)) is in
     let child = child_there s ok folder part rest there.0 there.1 in
@@ -125,10 +125,10 @@ module _ (root folder : PathView) (Form : List ℕ → Type 0) (names : List Nam
           let same : part' ≡ part = cc in
           subst Form same form'
 
-      handled : (of : IsOfStore root q) → (kind : Bool) → Stands s folder (record { part = part; folder = kind }) → Handled Form folder names q
+      handled : (of : IsOfStore root q) → (kind : Bool) → StandsRight s folder (record { part = part; folder = kind }) → Handled Form folder names q
       handled of kind stands = behind_handled q part [] (form of) refl (record { part = part; folder = kind }, has (record { part = part; folder = kind }) stands, refl)
 
-      stands_as : IsOfStore root q → (child : Place) → place_at s q ≡ Some child → Stands s folder (record { part = part; folder = is_folder_place child })
+      stands_as : IsOfStore root q → (child : Place) → place_at s q ≡ Some child → StandsRight s folder (record { part = part; folder = is_folder_place child })
       stands_as of child is = record { place = child; place_is = is; kind = refl; named = there part (form of) }
 
       left : (child : Place) → place_at t q ≡ Some child → ⊥
@@ -212,7 +212,7 @@ module _ (root folder : PathView) (Form : List ℕ → Type 0) (names : List Nam
         let parts = lone_parts old mid new first (b.moves t').went lone in
         let same = waits_alone old mid (waits t) parts.0 in
         let none = no_moves old mid (waits t) parts.0 in
-        let has : HasAll folder names (state old) = λ name stands. (lists t).every name (at_each (state old) (λ s. Stands s folder name) (moved old mid) none stands) in
+        let has : HasAll folder names (state old) = λ name stands. (lists t).every name (at_each (state old) (λ s. StandsRight s folder name) (moved old mid) none stands) in
         b.alone t' done (state_new old mid first ok) parts.1 (subst (HasAll folder names) (sym same) has) p g store (subst (HasOnly root p) (sym same) only);
   }
 

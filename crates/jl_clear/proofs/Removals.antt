@@ -11,7 +11,7 @@ use Rattle.jl_folder.specs.declared.folder.RemovedDir.{RemovedDir}
 use Rattle.jl_folder.specs.declared.folder.RemovedDir.TheVariants as removed_dir
 use Rattle.jl_folder.specs.State.{State, Trace, AtSome, place_at, is_file, is_folder, is_file_place, is_folder_place, run, after}
 use Rattle.jl_folder.specs.Views.{FolderView, state, moved}
-use Rattle.jl_folder.specs.Calls.{Call, RemovesFile, RemovesFolder, IsKept, own_event}
+use Rattle.jl_folder.specs.Calls.{Call, RemovesFile, RemovesFolder, IsParent, own_event}
 use Rattle.jl_entry.specs.Names.{IsStoreName, IsStoreFolder}
 use Rattle.jl_rely.specs.Steps.{StepFact, AllSteps, OwnMoves, IsLone}
 use Rattle.jl_rely.specs.Claims.{Moves}
@@ -104,7 +104,7 @@ file_away p removed.Failed old new same call done = cc
 file_away p removed.NoMemory old new same call done = cc
 
 -- what stands in a folder keeps it
-not_kept : (s : State) (p : PathView) → is_fixed p ≡ false → IsEmptied p s → IsKept s p → ⊥
+not_kept : (s : State) (p : PathView) → is_fixed p ≡ false → IsEmptied p s → IsParent s p → ⊥
 not_kept s p free bare (inl fixed) = true≢false (sym fixed ∙ free)
 not_kept s p free bare (inr (q, has_parent, in_p, there)) =
     let last = last_of q has_parent in

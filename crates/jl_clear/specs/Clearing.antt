@@ -4,7 +4,7 @@ use Rattle.jl_text.specs.Paths.{PathView, is_fixed}
 use Rattle.jl_folder.specs.declared.listing.Name.{Name}
 use Rattle.jl_folder.specs.State.{State, IsState, place_at, node_at, is_folder}
 use Rattle.jl_folder.specs.Views.{FolderView, FolderAnswers, state, moved}
-use Rattle.jl_folder.specs.Listing.{Stands}
+use Rattle.jl_folder.specs.Listing.{StandsRight}
 use Rattle.jl_entry.specs.Names.{IsStoreFolder, IsBelow, IsKeyName, IsCodeName}
 use Rattle.jl_rely.specs.Steps.{IsLone}
 use Rattle.jl_rely.specs.Claims.{Moves}
@@ -50,7 +50,7 @@ IsEmptied folder s = (p : PathView) → IsInside folder p → place_at s p ≡ N
 
 -- each name in the folder is one of these
 abbrev pub HasAll : PathView → List Name → State → Type 0
-HasAll folder names s = (name : Name) → Stands s folder name → Contains names name
+HasAll folder names s = (name : Name) → StandsRight s folder name → Contains names name
 
 -- each path names what it named, but that some of the store's among those that may go name nothing; and nodes are as before
 pub record Thinned (root : PathView) (May : PathView → Type 0) (before after : State) : Type 0 where

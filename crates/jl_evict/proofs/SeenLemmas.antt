@@ -6,7 +6,7 @@ use Rattle.jl_text.specs.Paths.{PathView, text_of}
 use Rattle.jl_folder.specs.declared.listing.Name.{Name}
 use Rattle.jl_folder.specs.declared.moves.Place.TheVariants.{File}
 use Rattle.jl_folder.specs.State.{State, Trace, AtEach, place_at, node_at, is_folder, is_file, bytes_at, run}
-use Rattle.jl_folder.specs.Listing.{Stands, ListsNames}
+use Rattle.jl_folder.specs.Listing.{StandsRight, ListsNames}
 use Rattle.jl_folder.proofs.Traces.{run-append}
 use Rattle.jl_entry.specs.declared.names.EntryFile.TheVariants.{Access}
 use Rattle.jl_entry.specs.Names.{IsBelow, below, entry_part}
@@ -23,8 +23,8 @@ use Rattle.jl_evict.proofs.Naming.{entry_text_once}
 pub lists_lasting : (folder : PathView) (names : List Name) → IsLasting (λ s moves. ListsNames folder names s moves)
 lists_lasting folder names s front moves back l = record {
   folder = some_lasting (λ t. is_folder t folder ≡ true) s front moves back l.folder;
-  each = λ name among. some_lasting (λ t. Stands t folder name) s front moves back (l.each name among);
-  every = λ name each. l.every name (each_within (λ t. Stands t folder name) s front moves back each);
+  each = λ name among. some_lasting (λ t. StandsRight t folder name) s front moves back (l.each name among);
+  every = λ name each. l.every name (each_within (λ t. StandsRight t folder name) s front moves back each);
   once = l.once;
 }
 

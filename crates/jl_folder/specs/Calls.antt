@@ -152,13 +152,13 @@ RemovesFile p removed.Failed s own = Maybe (Remove p) own
 RemovesFile p removed.NoMemory s own = Maybe (Remove p) own
 
 -- some path has it as its parent, or it is the current folder or the topmost
-abbrev pub IsKept : State → PathView → Type 0
-IsKept s p = (is_fixed p ≡ true) ⊎ ((q : PathView) × (is_fixed q ≡ false) × (parent q ≡ p) × IsSome (place_at s q))
+abbrev pub IsParent : State → PathView → Type 0
+IsParent s p = (is_fixed p ≡ true) ⊎ ((q : PathView) × (is_fixed q ≡ false) × (parent q ≡ p) × IsSome (place_at s q))
 
 -- what `remove_dir` answers and does
 abbrev pub RemovesFolder : PathView → RemovedDir → State → Option Move → Type 0
 RemovesFolder p removed_dir.NoDir s own = (is_folder s p ≡ false) × (own ≡ None)
-RemovesFolder p removed_dir.NotEmpty s own = (is_folder s p ≡ true) × IsKept s p × (own ≡ None)
+RemovesFolder p removed_dir.NotEmpty s own = (is_folder s p ≡ true) × IsParent s p × (own ≡ None)
 RemovesFolder p removed_dir.Done s own = (is_folder s p ≡ true) × (is_fixed p ≡ false) × IsEmptyFolder s p × (own ≡ Some (RemoveDir p))
 RemovesFolder p removed_dir.Failed s own = Maybe (RemoveDir p) own
 RemovesFolder p removed_dir.NoMemory s own = Maybe (RemoveDir p) own

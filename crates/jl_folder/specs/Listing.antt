@@ -10,7 +10,7 @@ use Rattle.jl_text.specs.Paths.{PathView, is_part}
 use Rattle.jl_folder.specs.State.{State, Trace, AtSome, AtEach, place_at, is_folder, is_folder_place}
 
 -- the name stands right in the folder; the topmost folder, whose one part is empty, stands in none
-pub record Stands (s : State) (p : PathView) (name : Name) : Type 0 where
+pub record StandsRight (s : State) (p : PathView) (name : Name) : Type 0 where
   pub place : Place
   pub place_is : place_at s (p ++ name.part ∷ []) ≡ Some place
   pub kind : is_folder_place place ≡ name.folder
@@ -19,8 +19,8 @@ pub record Stands (s : State) (p : PathView) (name : Name) : Type 0 where
 -- the names of a folder, as others move: each stood there at some state, what stood there throughout is one of them, and none comes twice
 pub record ListsNames (p : PathView) (names : List Name) (s : State) (moves : Trace) : Type 0 where
   pub folder : AtSome s moves (λ s. is_folder s p ≡ true)
-  pub each : (name : Name) → Contains names name → AtSome s moves (λ s. Stands s p name)
-  pub every : (name : Name) → AtEach s moves (λ s. Stands s p name) → Contains names name
+  pub each : (name : Name) → Contains names name → AtSome s moves (λ s. StandsRight s p name)
+  pub every : (name : Name) → AtEach s moves (λ s. StandsRight s p name) → Contains names name
   pub once : IsDistinct bytes_eq (map (λ n. n.part) names)
 
 -- what `list` answers

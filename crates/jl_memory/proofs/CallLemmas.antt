@@ -12,7 +12,7 @@ use Rattle.jl_folder.specs.declared.folder.Appended.TheVariants as appended
 use Rattle.jl_text.specs.Paths.{PathView}
 use Rattle.jl_folder.specs.declared.listing.Listed.{Listed}
 use Rattle.jl_folder.specs.declared.listing.Listed.TheVariants as listed
-use Rattle.jl_folder.specs.Listing.{ListsFolder, Stands}
+use Rattle.jl_folder.specs.Listing.{ListsFolder, StandsRight}
 use Rattle.jl_memory.specs.Children.{ListsHere}
 use Rattle.jl_folder.specs.State.{State, Trace, is_folder, run, Allowed, IsTrace, IsForeign, own_moves, AtSome, AtEach}
 use Rattle.jl_folder.specs.Calls.{Call, Waits, own_event}
@@ -291,8 +291,8 @@ pub lists_here : (a b : MemFolder) (p : PathView) (answer : Listed) → Interlud
 lists_here a b p listed.NoDir i here = at_end a b (λ s. is_folder s p ≡ false) i here
 lists_here a b p (listed.Names names) i here = record {
   folder = at_end a b (λ s. is_folder s p ≡ true) i here.folder;
-  each = λ name held. at_end a b (λ s. Stands s p name) i (here.each name held);
-  every = λ name each. here.every name (each_end a b (λ s. Stands s p name) i each);
+  each = λ name held. at_end a b (λ s. StandsRight s p name) i (here.each name held);
+  every = λ name each. here.every name (each_end a b (λ s. StandsRight s p name) i each);
   once = here.once;
 }
 lists_here a b p listed.Failed i here = tt

@@ -16,7 +16,7 @@ use Rattle.jl_folder.specs.declared.listing.Name.{Name}
 use Rattle.jl_folder.specs.declared.moves.Node.{Node}
 use Rattle.jl_text.specs.Paths.{PathView, path_eq, is_part, IsPath}
 use Rattle.jl_folder.specs.State.{State, is_folder_place}
-use Rattle.jl_folder.specs.Listing.{Stands}
+use Rattle.jl_folder.specs.Listing.{StandsRight}
 use Rattle.jl_memory.specs.Tables.{found, Agrees}
 use Rattle.jl_memory.specs.Children.{IsBelow, StandsIn}
 use Rattle.jl_folder.proofs.PathLemmas.{path_eq-Decides}
@@ -135,8 +135,8 @@ last_is_part (p ∷ ps) x h full =
     and_left (is_part x) (list_all is_part []) (and_right (list_all is_part ps) (list_all is_part (x ∷ [])) (sym (list_all-append is_part ps (x ∷ [])) ∙ rest))
 
 -- what the table tells stands in the state
-pub stands_at : (s : State) (places : List (PathView × Option Place)) (nodes : List (ℕ × Node)) → Agrees s places nodes → (p : PathView) (name : Name) → StandsIn places p name → Stands s p name
+pub stands_at : (s : State) (places : List (PathView × Option Place)) (nodes : List (ℕ × Node)) → Agrees s places nodes → (p : PathView) (name : Name) → StandsIn places p name → StandsRight s p name
 stands_at s places nodes a p name h = record { place = h.place; place_is = sym (a.place_is (p ++ name.part ∷ [])) ∙ h.found_is; kind = h.kind; named = h.named }
 
-pub stands_in : (s : State) (places : List (PathView × Option Place)) (nodes : List (ℕ × Node)) → Agrees s places nodes → (p : PathView) (name : Name) → Stands s p name → StandsIn places p name
+pub stands_in : (s : State) (places : List (PathView × Option Place)) (nodes : List (ℕ × Node)) → Agrees s places nodes → (p : PathView) (name : Name) → StandsRight s p name → StandsIn places p name
 stands_in s places nodes a p name h = record { place = h.place; found_is = a.place_is (p ++ name.part ∷ []) ∙ h.place_is; kind = h.kind; named = h.named }

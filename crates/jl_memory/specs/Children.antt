@@ -8,7 +8,7 @@ use Rattle.jl_folder.specs.declared.listing.Listed.TheVariants as listed
 use Rattle.std.specs.List.{IsDistinct}
 use Rattle.std.specs.Str.{bytes_eq}
 use Rattle.jl_folder.specs.State.{State, is_folder, is_folder_place}
-use Rattle.jl_folder.specs.Listing.{Stands}
+use Rattle.jl_folder.specs.Listing.{StandsRight}
 use Rattle.jl_memory.specs.Tables.{found}
 
 -- the path below this one, by a part that isn't empty: the topmost folder, whose one part is empty, stands below no path
@@ -26,8 +26,8 @@ pub record StandsIn (places : List (PathView × Option Place)) (p : PathView) (n
 -- the names are those that stand right in the folder, each once
 pub record NamesHere (p : PathView) (names : List Name) (s : State) : Type 0 where
   pub folder : is_folder s p ≡ true
-  pub each : (name : Name) → Contains names name → Stands s p name
-  pub every : (name : Name) → Stands s p name → Contains names name
+  pub each : (name : Name) → Contains names name → StandsRight s p name
+  pub every : (name : Name) → StandsRight s p name → Contains names name
   pub once : IsDistinct bytes_eq (map (λ n. n.part) names)
 
 -- what a listing of one state answers

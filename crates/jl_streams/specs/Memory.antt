@@ -15,8 +15,8 @@ pub record CallsView : Type 0 where
   pub faults : ℕ
 
 -- whether the next call is to fail
-abbrev pub fails : CallsView → Bool
-fails c = list_any (λ n. nat_eq n c.made) c.failing
+abbrev pub is_to_fail : CallsView → Bool
+is_to_fail c = list_any (λ n. nat_eq n c.made) c.failing
 
 -- one more fault
 abbrev pub failed : CallsView → CallsView
@@ -24,7 +24,7 @@ failed c = record c { faults = counted c.faults }
 
 -- one more call, which is a fault where it is to fail
 abbrev pub begun : CallsView → CallsView
-begun c = record c { made = counted c.made; faults = cond (fails c) (counted c.faults) c.faults }
+begun c = record c { made = counted c.made; faults = cond (is_to_fail c) (counted c.faults) c.faults }
 
 -- a source in memory: the bytes that are left, and how many a read gives at most
 pub record MemSourceView : Type 0 where

@@ -37,9 +37,9 @@ pub record WritesPrefix (bytes written written' : List ℕ) : Type 0 where
   pub gains : written' ≡ written ++ take count bytes
 
 -- what a write of a piece does to the bytes that were written
-abbrev pub Writes : Put → List ℕ → List ℕ → List ℕ → Type 0
-Writes (put.Took k) bytes written written' = written' ≡ written ++ take k bytes
-Writes put.Failed bytes written written' = WritesPrefix bytes written written'
+abbrev pub PutsPiece : Put → List ℕ → List ℕ → List ℕ → Type 0
+PutsPiece (put.Took k) bytes written written' = written' ≡ written ++ take k bytes
+PutsPiece put.Failed bytes written written' = WritesPrefix bytes written written'
 
 -- all bytes were written, or a prefix at a fault
 abbrev pub WritesAll : WroteAll → List ℕ → List ℕ → List ℕ → Type 0

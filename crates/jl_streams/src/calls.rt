@@ -1,7 +1,7 @@
 // Which calls of a form in memory fail.
 ghost use Rattle.std.specs.Prelude.{◌≡◌, ◌≤◌, true};
 ghost use Rattle.jl_text.specs.Counts.{Rose, Faults};
-ghost use Rattle.jl_streams.specs.Memory.{fails, begun, failed};
+ghost use Rattle.jl_streams.specs.Memory.{is_to_fail, begun, failed};
 
 use std::marker::Model;
 
@@ -33,16 +33,16 @@ impl Calls {
 
     // Begins a call. Says whether it is to fail.
     pub fn begin(&mut self) -> bool
-        ensures answer { result ≡ fails self.old }
+        ensures answer { result ≡ is_to_fail self.old }
         ensures after { self.new ≡ begun self.old }
         ensures faults { Faults self.old.faults self.new.faults (result ≡ true) }
     {
-        let fails = self.failing.contains(&self.made);
+        let is_to_fail = self.failing.contains(&self.made);
         self.made = self.made.saturating_add(1);
-        if fails {
+        if is_to_fail {
             self.faults = self.faults.saturating_add(1);
         }
-        fails
+        is_to_fail
     }
 
     // The call fails for a reason of its own.

@@ -1,8 +1,8 @@
 // A sink in memory.
 ghost use Rattle.std.specs.Prelude.{◌≡◌, ◌-◌, ◌<◌, [], ◌++◌, true, false, length, take, min, IfOk};
 ghost use Rattle.jl_text.specs.Counts.{Faults};
-ghost use Rattle.jl_streams.specs.Streams.{TakesSome, Writes};
-ghost use Rattle.jl_streams.specs.Memory.{fails, FailsWrite, FindsNoRoom, TakesFront};
+ghost use Rattle.jl_streams.specs.Streams.{TakesSome, PutsPiece};
+ghost use Rattle.jl_streams.specs.Memory.{is_to_fail, FailsWrite, FindsNoRoom, TakesFront};
 
 use crate::calls::Calls;
 use crate::sink::{Put, Sink};
@@ -75,10 +75,10 @@ impl MemSink {
 
     // Takes as many bytes as there is room for. Fails where there is none for a piece that isn't empty.
     fn take(&mut self, bytes: &[u8]) -> Put
-        ensures failing { fails self.old.calls ≡ true → FailsWrite self.old self.new result }
-        ensures full { fails self.old.calls ≡ false → self.old.room ≡ 0 → 0 < length bytes.now → FindsNoRoom self.old self.new result }
-        ensures fits { fails self.old.calls ≡ false → 0 < self.old.room → TakesFront self.old self.new bytes.now result (min self.old.room (length bytes.now)) }
-        ensures empty { fails self.old.calls ≡ false → length bytes.now ≡ 0 → TakesFront self.old self.new bytes.now result 0 }
+        ensures failing { is_to_fail self.old.calls ≡ true → FailsWrite self.old self.new result }
+        ensures full { is_to_fail self.old.calls ≡ false → self.old.room ≡ 0 → 0 < length bytes.now → FindsNoRoom self.old self.new result }
+        ensures fits { is_to_fail self.old.calls ≡ false → 0 < self.old.room → TakesFront self.old self.new bytes.now result (min self.old.room (length bytes.now)) }
+        ensures empty { is_to_fail self.old.calls ≡ false → length bytes.now ≡ 0 → TakesFront self.old self.new bytes.now result 0 }
         ensures faults { Faults self.old.calls.faults self.new.calls.faults (result ≡ Put.Failed) }
     {
         if self.calls.begin() {
@@ -102,12 +102,12 @@ impl Sink for MemSink {
 
     fn write(&mut self, bytes: &[u8]) -> Put
         ensures some { TakesSome (length bytes.now) result }
-        ensures bytes { Writes result bytes.now self.old.written self.new.written }
+        ensures bytes { PutsPiece result bytes.now self.old.written self.new.written }
         ensures frame { SinkAnswers (result ≡ Put.Failed) (sink_view self.old) (sink_view self.new) }
-        ensures failing { fails self.old.calls ≡ true → FailsWrite self.old self.new result }
-        ensures full { fails self.old.calls ≡ false → self.old.room ≡ 0 → 0 < length bytes.now → FindsNoRoom self.old self.new result }
-        ensures fits { fails self.old.calls ≡ false → 0 < self.old.room → TakesFront self.old self.new bytes.now result (min self.old.room (length bytes.now)) }
-        ensures empty { fails self.old.calls ≡ false → length bytes.now ≡ 0 → TakesFront self.old self.new bytes.now result 0 }
+        ensures failing { is_to_fail self.old.calls ≡ true → FailsWrite self.old self.new result }
+        ensures full { is_to_fail self.old.calls ≡ false → self.old.room ≡ 0 → 0 < length bytes.now → FindsNoRoom self.old self.new result }
+        ensures fits { is_to_fail self.old.calls ≡ false → 0 < self.old.room → TakesFront self.old self.new bytes.now result (min self.old.room (length bytes.now)) }
+        ensures empty { is_to_fail self.old.calls ≡ false → length bytes.now ≡ 0 → TakesFront self.old self.new bytes.now result 0 }
     {
         self.take(bytes)
     }

@@ -2,7 +2,7 @@
 ghost use Rattle.std.specs.Prelude.{◌≡◌, ◌<◌, ◌≤◌, ◌++◌, true, false, length, take, drop, min};
 ghost use Rattle.jl_text.specs.Counts.{Faults};
 ghost use Rattle.jl_streams.specs.Streams.{GivesSome, Reads};
-ghost use Rattle.jl_streams.specs.Memory.{fails, share, FailsRead, GivesFront};
+ghost use Rattle.jl_streams.specs.Memory.{is_to_fail, share, FailsRead, GivesFront};
 
 use crate::calls::Calls;
 use crate::source::{Got, Source};
@@ -74,8 +74,8 @@ impl MemSource {
 
     // Gives as many bytes as there are, and as the piece and the buffer hold.
     fn give(&mut self, buf: &mut [u8]) -> Got
-        ensures failing { fails self.old.calls ≡ true → FailsRead self.old self.new buf.old buf.new result }
-        ensures gives { fails self.old.calls ≡ false → GivesFront self.old self.new buf.old buf.new result (share self.old (length buf.old)) }
+        ensures failing { is_to_fail self.old.calls ≡ true → FailsRead self.old self.new buf.old buf.new result }
+        ensures gives { is_to_fail self.old.calls ≡ false → GivesFront self.old self.new buf.old buf.new result (share self.old (length buf.old)) }
         ensures piece { 1 ≤ self.old.piece }
         ensures faults { Faults self.old.calls.faults self.new.calls.faults (result ≡ Got.Failed) }
     {
@@ -104,8 +104,8 @@ impl Source for MemSource {
         ensures some { GivesSome (length buf.old) result }
         ensures bytes { Reads result buf.old buf.new self.old.left self.new.left }
         ensures frame { SourceAnswers (result ≡ Got.Failed) (source_view self.old) (source_view self.new) }
-        ensures failing { fails self.old.calls ≡ true → FailsRead self.old self.new buf.old buf.new result }
-        ensures gives { fails self.old.calls ≡ false → GivesFront self.old self.new buf.old buf.new result (share self.old (length buf.old)) }
+        ensures failing { is_to_fail self.old.calls ≡ true → FailsRead self.old self.new buf.old buf.new result }
+        ensures gives { is_to_fail self.old.calls ≡ false → GivesFront self.old self.new buf.old buf.new result (share self.old (length buf.old)) }
     {
         self.give(buf)
     }

@@ -1,6 +1,6 @@
 // Where bytes go.
 ghost use Rattle.std.specs.Prelude.{◌≡◌, length};
-ghost use Rattle.jl_streams.specs.Streams.{TakesSome, Writes, WritesAll};
+ghost use Rattle.jl_streams.specs.Streams.{TakesSome, PutsPiece, WritesAll};
 ghost use Rattle.jl_streams.specs.Views.{SinkView, SinkAnswers};
 
 /// What a write took.
@@ -20,7 +20,7 @@ pub trait Sink {
     /// Writes bytes from the front of a piece.
     fn write(&mut self, bytes: &[u8]) -> Put
         ensures some { TakesSome (length bytes.now) result }
-        ensures bytes { (view self.old).told → Writes result bytes.now (view self.old).written (view self.new).written }
+        ensures bytes { (view self.old).told → PutsPiece result bytes.now (view self.old).written (view self.new).written }
         ensures frame { SinkAnswers (result ≡ Put.Failed) (view self.old) (view self.new) };
 }
 

@@ -6,7 +6,7 @@ use Rattle.std.proofs.lemmas.List.{append-nil, append_assoc}
 use Rattle.std.proofs.lemmas.Bool.Decides.{leb_tells}
 use Rattle.jl_text.specs.Paths.{PathView, path_eq}
 use Rattle.jl_folder.specs.State.{State, Trace, Event, History, AtSome, AtEach, place_at, is_file, is_file_place, is_folder, is_folder_place, run, after, now, since}
-use Rattle.jl_folder.specs.Calls.{IsKept, own_event}
+use Rattle.jl_folder.specs.Calls.{IsParent, own_event}
 use Rattle.jl_text.specs.Counts.{Rose}
 use Rattle.jl_folder.specs.declared.listing.Name.{Name}
 use Rattle.jl_folder.specs.declared.moves.Place.{Place}
@@ -194,7 +194,7 @@ tried_cause p a b t = go t.last.call.own t.last.call.answer whole
             record { place = s.0; place_is = s.1; kind = s.2; named = named }) in
             tried (many.gone (record { part = part; folder = false }) (among t.names (record { part = part; folder = false }) found.0 found.1 found.2) refl)
 
-    decide : is_folder (run (now t.emptied.history) t.last.call.others) p ≡ true → IsKept (run (now t.emptied.history) t.last.call.others) p → since a.history b.history ≡ (t.list.waits.others ++ (many.moves ++ t.last.call.others)) ++ own_event t.emptied.token t.last.call.own → HasCause p a b
+    decide : is_folder (run (now t.emptied.history) t.last.call.others) p ≡ true → IsParent (run (now t.emptied.history) t.last.call.others) p → since a.history b.history ≡ (t.list.waits.others ++ (many.moves ++ t.last.call.others)) ++ own_event t.emptied.token t.last.call.own → HasCause p a b
     decide there kept split = elim (leb_tells (min (a.faults + 1) (2 ^ 64 - 1)) b.faults) [
       | inl r ↦ inr (inr r.1)
       | inr r ↦ inr (inl record {
@@ -203,7 +203,7 @@ tried_cause p a b t = go t.last.call.own t.last.call.answer whole
         split = split;
         away = away (λ rose. absurd (omega (arith, r.1, rose)));
         there = subst (λ s. is_folder s p ≡ true) at_lead there;
-        kept = subst (λ s. IsKept s p) at_lead kept;
+        kept = subst (λ s. IsParent s p) at_lead kept;
       })
     ]
 

@@ -3,7 +3,7 @@ use Rattle.std.specs.Prelude.{◌≡◌, ◌≢◌, ℕ, ◌⊎◌, List, [], �
 use Rattle.jl_text.specs.Paths.{PathView}
 use Rattle.jl_text.specs.Counts.{Rose}
 use Rattle.jl_folder.specs.State.{State, Trace, AtSome, is_file, is_folder, run, now, since}
-use Rattle.jl_folder.specs.Calls.{IsKept}
+use Rattle.jl_folder.specs.Calls.{IsParent}
 use Rattle.jl_tracker.specs.Stages.{FolderPoint}
 
 -- each file that stood in the folder at first was away at some state of these moves
@@ -17,7 +17,7 @@ pub record StillHolds (p : PathView) (old new : FolderPoint) : Type 0 where
   pub split : since old.history new.history ≡ before ++ later
   pub away : WentAway (now old.history) before p
   pub there : is_folder (run (now old.history) before) p ≡ true
-  pub kept : IsKept (run (now old.history) before) p
+  pub kept : IsParent (run (now old.history) before) p
 
 -- the path named no folder at some state; or the folder still held something; or the count of faults rose
 abbrev pub HasCause : PathView → FolderPoint → FolderPoint → Type 0

@@ -3,7 +3,7 @@ use Rattle.std.specs.Prelude.{◌≡◌, ℕ, ◌≤◌, ◌⊎◌, List, [], �
 use Rattle.jl_text.specs.Paths.{PathView, path_of}
 use Rattle.jl_text.specs.Counts.{Rose}
 use Rattle.jl_folder.specs.State.{State, AtSome, is_file, is_folder, IsEmptyFolder, now, since}
-use Rattle.jl_folder.specs.Calls.{Call, Waits, Maybe, IsKept}
+use Rattle.jl_folder.specs.Calls.{Call, Waits, Maybe, IsParent}
 use Rattle.jl_folder.specs.Listing.{ListsNames}
 use Rattle.jl_folder.specs.declared.listing.Name.{Name}
 use Rattle.jl_folder.specs.declared.moves.Move.{Move}
@@ -20,7 +20,7 @@ TriesFile p false old new s own = ((is_file s p ≡ false) × (own ≡ None) × 
 -- what a try to take a folder away finds and does: it was there and empty, and goes; there was none; it still held something, or is the current folder or the topmost; or the count of faults rose. Otherwise the count stands
 abbrev pub TriesFolder : PathView → Bool → FolderPoint → FolderPoint → State → Option Move → Type 0
 TriesFolder p true old new s own = (is_folder s p ≡ true) × IsEmptyFolder s p × (own ≡ Some (RemoveDir p)) × (new.faults ≡ old.faults)
-TriesFolder p false old new s own = ((is_folder s p ≡ false) × (own ≡ None) × (new.faults ≡ old.faults)) ⊎ (((is_folder s p ≡ true) × IsKept s p × (own ≡ None) × (new.faults ≡ old.faults)) ⊎ (Rose old.faults new.faults × Maybe (RemoveDir p) own))
+TriesFolder p false old new s own = ((is_folder s p ≡ false) × (own ≡ None) × (new.faults ≡ old.faults)) ⊎ (((is_folder s p ≡ true) × IsParent s p × (own ≡ None) × (new.faults ≡ old.faults)) ⊎ (Rose old.faults new.faults × Maybe (RemoveDir p) own))
 
 -- others moved, and then a file was taken away, or the try failed
 pub record TriedFile (p : PathView) (done : Bool) (old new : FolderPoint) : Type 0 where
