@@ -1,4 +1,5 @@
-//! A folder of files as one run sees it beside others: its states, moves and calls, and the reading of a file.
+//! A folder of files as one run sees it beside others: its states, moves and calls, and the reading
+//! of a file.
 #![tactic(auto)]
 
 mod folder;

@@ -53,7 +53,9 @@ impl PartialEq for Node {
 
     ghost eq = { node_eq };
 
-    ghost laws = { and_per (on_per (λ v. v.bytes) (partial_equiv_from_equiv nat_list_eq_equiv)) (and_per (on_per (λ v. v.maker) (partial_equiv_from_equiv nat_list_eq_equiv)) (on_per (λ v. v.frozen) (partial_equiv_from_equiv bool_eq_equiv))) };
+    ghost laws = { and_per (on_per (λ v. v.bytes) (partial_equiv_from_equiv nat_list_eq_equiv))
+        (and_per (on_per (λ v. v.maker) (partial_equiv_from_equiv nat_list_eq_equiv))
+        (on_per (λ v. v.frozen) (partial_equiv_from_equiv bool_eq_equiv))) };
 
     fn eq(&self, other: &Self) -> bool {
         self.bytes == other.bytes && (self.maker == other.maker && self.frozen == other.frozen)

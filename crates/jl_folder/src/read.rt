@@ -36,7 +36,8 @@ fn push_front(bytes: &mut Vec<u8>, buf: &[u8], k: usize) -> bool
     bytes.extend_from_slice(&buf[..k]).is_ok()
 }
 
-// Reads pieces of at most the buffer's length to the end, or until as many bytes are read as are wanted.
+// Reads pieces of at most the buffer's length to the end, or until as many bytes are read as are
+// wanted.
 fn read_pieces<F: Folder>(
     alloc: Global,
     folder: &mut F,
@@ -47,9 +48,11 @@ fn read_pieces<F: Folder>(
     requires is_open { IsOpen (F.view folder.old).opens number.0 }
     requires room { 0 < most → 0 < length buf.old }
     ensures waits { (F.view folder.old).told → Waits (F.view folder.old) (F.view folder.new) }
-    ensures reads { (F.view folder.old).told → ReadsOpen number.0 most result (F.view folder.old) (F.view folder.new) }
+    ensures reads { (F.view folder.old).told
+        → ReadsOpen number.0 most result (F.view folder.old) (F.view folder.new) }
     ensures within { OpenWithin most result }
-    ensures frame { FolderAnswers (result ≡ OpenRead.Failed) (F.view folder.old) (F.view folder.new) }
+    ensures frame { FolderAnswers (result ≡ OpenRead.Failed) (F.view folder.old)
+        (F.view folder.new) }
 {
     let mut bytes = Vec::new(alloc);
     'pieces: while bytes.len() < most {
@@ -73,9 +76,11 @@ fn read_pieces<F: Folder>(
 pub fn read_open<F: Folder>(alloc: Global, folder: &mut F, number: FileNo, most: usize) -> OpenRead
     requires { IsOpen (F.view folder.old).opens number.0 }
     ensures waits { (F.view folder.old).told → Waits (F.view folder.old) (F.view folder.new) }
-    ensures reads { (F.view folder.old).told → ReadsOpen number.0 most result (F.view folder.old) (F.view folder.new) }
+    ensures reads { (F.view folder.old).told
+        → ReadsOpen number.0 most result (F.view folder.old) (F.view folder.new) }
     ensures within { OpenWithin most result }
-    ensures frame { FolderAnswers (result ≡ OpenRead.Failed) (F.view folder.old) (F.view folder.new) }
+    ensures frame { FolderAnswers (result ≡ OpenRead.Failed) (F.view folder.old)
+        (F.view folder.new) }
 {
     let size = if most < PIECE { most } else { PIECE };
     match vec![in alloc; 0u8; size] {
@@ -94,12 +99,16 @@ fn as_file(answer: OpenRead) -> FileRead
     }
 }
 
-/// All bytes, or the first `most`, that the node which the path names at one state of the call has at that state or a later one; read through one open number.
+/// All bytes, or the first `most`, that the node which the path names at one state of the call has
+/// at that state or a later one; read through one open number.
 pub fn read_file<F: Folder>(alloc: Global, folder: &mut F, path: &Path, most: usize) -> FileRead
     ensures waits { (F.view folder.old).told → Waits (F.view folder.old) (F.view folder.new) }
-    ensures reads { (F.view folder.old).told → ReadsFile path.now most result (state (F.view folder.old)) (moved (F.view folder.old) (F.view folder.new)) }
+    ensures reads { (F.view folder.old).told
+        → ReadsFile path.now most result (state (F.view folder.old))
+        (moved (F.view folder.old) (F.view folder.new)) }
     ensures within { FileWithin most result }
-    ensures frame { FolderAnswers (result ≡ FileRead.Failed) (F.view folder.old) (F.view folder.new) }
+    ensures frame { FolderAnswers (result ≡ FileRead.Failed) (F.view folder.old)
+        (F.view folder.new) }
 {
     match folder.open_file(path) {
         Opened::Opened(number) => {

@@ -15,7 +15,8 @@ pub trait Host {
     fn now(&mut self) -> u64
         ensures bound { result ≤ 2 ^ 62 }
         ensures moment { (view self.old).told → result ≡ moment_of (view self.old).moments }
-        ensures moments { (view self.old).told → (view self.new).moments ≡ moments_after (view self.old).moments }
+        ensures moments { (view self.old).told
+            → (view self.new).moments ≡ moments_after (view self.old).moments }
         ensures frame { HostKeeps (view self.old) (view self.new) };
 
     /// How many processors there are.

@@ -21,9 +21,11 @@ impl Model for MemHost {
 
     ghost Value = { MemHostView };
 
-    ghost view = { λ h. record { moments = drop h.at h.times.items; processors = h.processors; token = h.token } };
+    ghost view = { λ h.
+        record { moments = drop h.at h.times.items; processors = h.processors; token = h.token } };
 
-    ghost invariant = { λ h. (h.at ≤ length h.times.items) × All (λ t. t ≤ 2 ^ 62) h.times.items × (1 ≤ h.processors) × (h.processors ≤ 1024) };
+    ghost invariant = { λ h. (h.at ≤ length h.times.items) × All (λ t. t ≤ 2 ^ 62) h.times.items
+        × (1 ≤ h.processors) × (h.processors ≤ 1024) };
 }
 
 impl MemHost {
@@ -32,7 +34,8 @@ impl MemHost {
         requires times { All (λ t. t ≤ 2 ^ 62) times.items }
         requires least { 1 ≤ processors }
         requires most { processors ≤ 1024 }
-        ensures { result ≡ record { moments = times.items; processors = processors; token = token } }
+        ensures { result
+            ≡ record { moments = times.items; processors = processors; token = token } }
     {
         MemHost {
             times,

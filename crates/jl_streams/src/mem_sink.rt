@@ -31,7 +31,12 @@ impl Model for MemSink {
 impl MemSink {
     /// The writes of these numbers fail, counted from 0.
     pub fn new(alloc: Global, room: usize, failing: Vec<u64>) -> Result<MemSink, AllocError>
-        ensures { IfOk result (λ s. s ≡ record { written = []; room = room; calls = record { failing = failing.items; made = 0; faults = 0 } }) }
+        ensures { IfOk result (λ s. s ≡ record {
+          written = [];
+          room = room;
+          calls =
+              record { failing = failing.items; made = 0; faults = 0 };
+        }) }
     {
         let bytes = Vec::with_capacity(alloc, room)?;
         Ok(MemSink {
@@ -58,7 +63,8 @@ impl MemSink {
     // Puts as many of these bytes as there is room for behind the others. Says how many.
     fn put(&mut self, bytes: &[u8]) -> usize
         ensures count { result ≡ min self.old.room (length bytes.now) }
-        ensures after { self.new ≡ record self.old { written = self.old.written ++ take result bytes.now; room = self.old.room - result } }
+        ensures after { self.new ≡ record self.old
+            { written = self.old.written ++ take result bytes.now; room = self.old.room - result } }
     {
         let k = if self.room < bytes.len() {
             self.room
@@ -73,12 +79,16 @@ impl MemSink {
         k
     }
 
-    // Takes as many bytes as there is room for. Fails where there is none for a piece that isn't empty.
+    // Takes as many bytes as there is room for. Fails where there is none for a piece that isn't
+    // empty.
     fn take(&mut self, bytes: &[u8]) -> Put
         ensures failing { is_to_fail self.old.calls ≡ true → FailsWrite self.old self.new result }
-        ensures full { is_to_fail self.old.calls ≡ false → self.old.room ≡ 0 → 0 < length bytes.now → FindsNoRoom self.old self.new result }
-        ensures fits { is_to_fail self.old.calls ≡ false → 0 < self.old.room → TakesFront self.old self.new bytes.now result (min self.old.room (length bytes.now)) }
-        ensures empty { is_to_fail self.old.calls ≡ false → length bytes.now ≡ 0 → TakesFront self.old self.new bytes.now result 0 }
+        ensures full { is_to_fail self.old.calls ≡ false → self.old.room ≡ 0 → 0 < length bytes.now
+            → FindsNoRoom self.old self.new result }
+        ensures fits { is_to_fail self.old.calls ≡ false → 0 < self.old.room
+            → TakesFront self.old self.new bytes.now result (min self.old.room (length bytes.now)) }
+        ensures empty { is_to_fail self.old.calls ≡ false → length bytes.now ≡ 0
+            → TakesFront self.old self.new bytes.now result 0 }
         ensures faults { Faults self.old.calls.faults self.new.calls.faults (result ≡ Put.Failed) }
     {
         if self.calls.begin() {
@@ -103,11 +113,15 @@ impl Sink for MemSink {
     fn write(&mut self, bytes: &[u8]) -> Put
         ensures some { TakesSome (length bytes.now) result }
         ensures bytes { PutsPiece result bytes.now self.old.written self.new.written }
-        ensures frame { SinkAnswers (result ≡ Put.Failed) (sink_view self.old) (sink_view self.new) }
+        ensures frame { SinkAnswers (result ≡ Put.Failed) (sink_view self.old)
+            (sink_view self.new) }
         ensures failing { is_to_fail self.old.calls ≡ true → FailsWrite self.old self.new result }
-        ensures full { is_to_fail self.old.calls ≡ false → self.old.room ≡ 0 → 0 < length bytes.now → FindsNoRoom self.old self.new result }
-        ensures fits { is_to_fail self.old.calls ≡ false → 0 < self.old.room → TakesFront self.old self.new bytes.now result (min self.old.room (length bytes.now)) }
-        ensures empty { is_to_fail self.old.calls ≡ false → length bytes.now ≡ 0 → TakesFront self.old self.new bytes.now result 0 }
+        ensures full { is_to_fail self.old.calls ≡ false → self.old.room ≡ 0 → 0 < length bytes.now
+            → FindsNoRoom self.old self.new result }
+        ensures fits { is_to_fail self.old.calls ≡ false → 0 < self.old.room
+            → TakesFront self.old self.new bytes.now result (min self.old.room (length bytes.now)) }
+        ensures empty { is_to_fail self.old.calls ≡ false → length bytes.now ≡ 0
+            → TakesFront self.old self.new bytes.now result 0 }
     {
         self.take(bytes)
     }

@@ -48,7 +48,12 @@ impl MemSource {
     /// A read gives at most `piece` bytes, and the reads of these numbers fail, counted from 0.
     pub fn new(bytes: Bytes, piece: usize, failing: Vec<u64>) -> MemSource
         requires { 1 ≤ piece }
-        ensures { result ≡ record { left = bytes; piece = piece; calls = record { failing = failing.items; made = 0; faults = 0 } } }
+        ensures { result ≡ record {
+          left = bytes;
+          piece = piece;
+          calls =
+              record { failing = failing.items; made = 0; faults = 0 };
+        } }
     {
         MemSource {
             bytes,
@@ -74,8 +79,11 @@ impl MemSource {
 
     // Gives as many bytes as there are, and as the piece and the buffer hold.
     fn give(&mut self, buf: &mut [u8]) -> Got
-        ensures failing { is_to_fail self.old.calls ≡ true → FailsRead self.old self.new buf.old buf.new result }
-        ensures gives { is_to_fail self.old.calls ≡ false → GivesFront self.old self.new buf.old buf.new result (share self.old (length buf.old)) }
+        ensures failing { is_to_fail self.old.calls ≡ true
+            → FailsRead self.old self.new buf.old buf.new result }
+        ensures gives { is_to_fail self.old.calls ≡ false
+            → GivesFront self.old self.new buf.old buf.new result
+            (share self.old (length buf.old)) }
         ensures piece { 1 ≤ self.old.piece }
         ensures faults { Faults self.old.calls.faults self.new.calls.faults (result ≡ Got.Failed) }
     {
@@ -103,9 +111,13 @@ impl Source for MemSource {
         requires { 0 < length buf.old }
         ensures some { GivesSome (length buf.old) result }
         ensures bytes { Reads result buf.old buf.new self.old.left self.new.left }
-        ensures frame { SourceAnswers (result ≡ Got.Failed) (source_view self.old) (source_view self.new) }
-        ensures failing { is_to_fail self.old.calls ≡ true → FailsRead self.old self.new buf.old buf.new result }
-        ensures gives { is_to_fail self.old.calls ≡ false → GivesFront self.old self.new buf.old buf.new result (share self.old (length buf.old)) }
+        ensures frame { SourceAnswers (result ≡ Got.Failed) (source_view self.old)
+            (source_view self.new) }
+        ensures failing { is_to_fail self.old.calls ≡ true
+            → FailsRead self.old self.new buf.old buf.new result }
+        ensures gives { is_to_fail self.old.calls ≡ false
+            → GivesFront self.old self.new buf.old buf.new result
+            (share self.old (length buf.old)) }
     {
         self.give(buf)
     }

@@ -20,7 +20,8 @@ pub trait Sink {
     /// Writes bytes from the front of a piece.
     fn write(&mut self, bytes: &[u8]) -> Put
         ensures some { TakesSome (length bytes.now) result }
-        ensures bytes { (view self.old).told → PutsPiece result bytes.now (view self.old).written (view self.new).written }
+        ensures bytes { (view self.old).told
+            → PutsPiece result bytes.now (view self.old).written (view self.new).written }
         ensures frame { SinkAnswers (result ≡ Put.Failed) (view self.old) (view self.new) };
 }
 
@@ -35,7 +36,8 @@ pub enum WroteAll {
 
 /// Writes all bytes, each time those that are still to be written. Takes no memory.
 pub fn write_all<O: Sink>(sink: &mut O, bytes: &[u8]) -> WroteAll
-    ensures bytes { (O.view sink.old).told → WritesAll result bytes.now (O.view sink.old).written (O.view sink.new).written }
+    ensures bytes { (O.view sink.old).told
+        → WritesAll result bytes.now (O.view sink.old).written (O.view sink.new).written }
     ensures frame { SinkAnswers (result ≡ WroteAll.Fault) (O.view sink.old) (O.view sink.new) }
 {
     let mut at = 0;

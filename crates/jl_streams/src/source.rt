@@ -23,6 +23,7 @@ pub trait Source {
     fn read(&mut self, buf: &mut [u8]) -> Got
         requires { 0 < length buf.old }
         ensures some { GivesSome (length buf.old) result }
-        ensures bytes { (view self.old).told → Reads result buf.old buf.new (view self.old).left (view self.new).left }
+        ensures bytes { (view self.old).told
+            → Reads result buf.old buf.new (view self.old).left (view self.new).left }
         ensures frame { SourceAnswers (result ≡ Got.Failed) (view self.old) (view self.new) };
 }
