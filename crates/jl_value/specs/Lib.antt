@@ -8,6 +8,7 @@ pub mod Proper
 pub mod Tokens
 pub mod Key
 pub mod Walked
+pub mod Lines
 pub mod Library
 pub mod Names
 pub mod Tiny

@@ -1,6 +1,6 @@
 -- What the laws of `TinyLibrary` rest on.
 -- Machinery: nothing here need be believed.
-use Rattle.std.proofs.Common.{◌≡◌, ◌<◌, ◌≤◌, ◌+◌, ◌^◌, ◌==◌, ◌&&◌, ◌++◌, ℕ, zero, suc, ℤ, pos, negsuc, Bool, true, false, not, cond, List, [], ◌∷◌, length, take, drop, Option, Some, None, IsTrue, inl, inr, refl, sym, subst, arith, true≢false}
+use Rattle.std.proofs.Common.{◌≡◌, ◌<◌, ◌≤◌, ◌+◌, ◌^◌, ◌==◌, ◌&&◌, ◌++◌, ℕ, zero, suc, ℤ, pos, negsuc, Bool, true, false, not, cond, List, [], ◌∷◌, length, take, drop, Option, Some, None, IsTrue, inl, inr, refl, sym, ap, subst, arith, true≢false}
 use Rattle.std.specs.Prelude.{if◌then◌else◌, nat_lt, nat_le, option_map, slice_index, ◌+ℤ◌}
 use Rattle.std.specs.Fmt.{signed_decimal}
 use Rattle.std.specs.Str.Parse.{signed_digits_value}
@@ -23,6 +23,7 @@ use Rattle.jl_value.specs.Tree.{Tree, whole}
 use Rattle.jl_value.specs.Key.{args_tree}
 use Rattle.jl_value.specs.Proper.{IsWhole, IsProper}
 use Rattle.jl_value.specs.Library.{value, error, IsWithin}
+use Rattle.jl_value.specs.Lines.{is_line, IsLine}
 use Rattle.jl_value.specs.Tiny.{is_positive, is_decimal, is_whole, number_of, definition_of, kind_among, line_fault, or_later, fault_in, name_is, defines, without_empty_last, tiny_lines, code_in, line_in, tiny_code, tiny_line, tiny_fault, answer_by, tiny_answer}
 
 -- ---- names
@@ -118,6 +119,44 @@ code_short most (l ∷ ls) n c h e = short_at (defines l n) most l c (code_in ls
 
 pub tiny_short : (m n c : List ℕ) → tiny_code m n ≡ Some c → length c ≤ length m
 tiny_short m n c e = code_short (length m) (tiny_lines m) n c (lines_short (length m) _ (pieces_short m)) e
+
+-- ---- one line
+
+-- lines, and a byte in front of the first of them or a newline
+line_step : (b : Bool) (x : ℕ) (ls : List (List ℕ)) → (x == 10) ≡ b → list_all is_line ls ≡ true → list_all is_line (cond b ([] ∷ ls) (onto_first x ls)) ≡ true
+line_step true x ls is e = e
+line_step false x [] is e = and_from (is_line (x ∷ [])) true (and_from (not (x == 10)) true (ap not is) refl) refl
+line_step false x (l ∷ ls) is e =
+    let parts = and_parts (is_line l) (list_all is_line ls) e in
+    and_from (is_line (x ∷ l)) (list_all is_line ls) (and_from (not (x == 10)) (is_line l) (ap not is) parts.0) parts.1
+
+pieces_one : (m : List ℕ) → list_all is_line (slice_split (λ b. b == 10) m) ≡ true
+pieces_one [] = refl
+pieces_one (x ∷ m) = line_step (x == 10) x (slice_split (λ b. b == 10) m) refl (pieces_one m)
+
+none_or_one : (b : Bool) (l : List ℕ) → list_all is_line (l ∷ []) ≡ true → list_all is_line (if b then [] else l ∷ []) ≡ true
+none_or_one true l e = refl
+none_or_one false l e = e
+
+lines_one : (ls : List (List ℕ)) → list_all is_line ls ≡ true → list_all is_line (without_empty_last ls) ≡ true
+lines_one [] e = refl
+lines_one (l ∷ []) e = none_or_one (length l == 0) l e
+lines_one (l ∷ k ∷ ls) e =
+    let parts = and_parts (is_line l) (list_all is_line (k ∷ ls)) e in
+    and_from (is_line l) (list_all is_line (without_empty_last (k ∷ ls))) parts.0 (lines_one (k ∷ ls) parts.1)
+
+one_at : (b : Bool) (l c : List ℕ) (later : Option (List ℕ)) → is_line l ≡ true → (later ≡ Some c → is_line c ≡ true) → (if b then Some l else later) ≡ Some c → is_line c ≡ true
+one_at true l c later h g e = let same : l ≡ c = cc in subst (λ (s : List ℕ). is_line s ≡ true) same h
+one_at false l c later h g e = g e
+
+code_one : (ls : List (List ℕ)) (n c : List ℕ) → list_all is_line ls ≡ true → code_in ls n ≡ Some c → is_line c ≡ true
+code_one [] n c h e = absurd (cc)
+code_one (l ∷ ls) n c h e =
+    let parts = and_parts (is_line l) (list_all is_line ls) h in
+    one_at (defines l n) l c (code_in ls n) parts.0 (code_one ls n c parts.1) e
+
+pub tiny_one_line : (m n c : List ℕ) → tiny_code m n ≡ Some c → IsLine c
+tiny_one_line m n c e = code_one (tiny_lines m) n c (lines_one (slice_split (λ b. b == 10) m) (pieces_one m)) e
 
 -- ---- faults
 

@@ -15,7 +15,7 @@ pub use fault::ValueFault;
 pub use jl_text::Text;
 pub use key::{Args, Key, digest};
 pub use library::{
-    Called, CodeRef, Library, ModuleFault, ModuleFaultKind, Outcome, ReadModule, TaskError,
+    Called, CodeRef, Library, ModuleFault, ModuleFaultKind, Outcome, ReadModule, TaskError, is_line,
 };
 pub use reading::read_value;
 pub use testing::TinyLibrary;

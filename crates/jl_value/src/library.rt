@@ -7,6 +7,7 @@ ghost use Rattle.jl_value.specs.Canonical.{text_of};
 ghost use Rattle.jl_value.specs.Proper.{IsProper};
 ghost use Rattle.jl_value.specs.declared.library.ModuleFault.{ModuleFault};
 ghost use Rattle.jl_value.specs.Names.{name_of, fault_name_of};
+ghost use Rattle.jl_value.specs.Lines.{is_line, IsLine};
 ghost use Rattle.jl_value.specs.Library.{Answer, value as answered, error as failed, outcome_of, IfDone, Counted, HasRead, IsWithin, next_count};
 
 use crate::key::Args;
@@ -129,6 +130,13 @@ pub struct CodeRef<'a> {
     pub line: u64,
 }
 
+/// Whether a text is one line, as each code is: no newline stands in it.
+pub fn is_line(text: &str) -> bool
+    ensures { result ≡ is_line text.now }
+{
+    text.as_bytes().iter().all(|b| *b != b'\n')
+}
+
 /// What a module's names stand for, and calls of them.
 ///
 /// Codes, lines, answers and faults depend on nothing but the texts named.
@@ -177,6 +185,9 @@ pub trait Library: Sized {
 
     // No code is longer than its module.
     ghost short: { (m n c : List ℕ) → code m n ≡ Some c → length c ≤ length m };
+
+    // A code is one line.
+    ghost one_line: { (m n c : List ℕ) → code m n ≡ Some c → IsLine c };
 
     // Bytes that are no text are no module.
     ghost utf8: { (m : List ℕ) → fault m ≡ None → IsUtf8 m };

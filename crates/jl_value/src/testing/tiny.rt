@@ -244,7 +244,7 @@ impl TinyLibrary {
 
 impl Library for TinyLibrary {
     ghost use Rattle.jl_value.specs.Tiny.{tiny_code, tiny_line, tiny_answer, tiny_fault};
-    ghost use Rattle.jl_value.specs.TinyLaws.{tiny_named, tiny_lines_within, tiny_short, tiny_utf8, tiny_within};
+    ghost use Rattle.jl_value.specs.TinyLaws.{tiny_named, tiny_lines_within, tiny_short, tiny_one_line, tiny_utf8, tiny_within};
 
     ghost code = { tiny_code };
 
@@ -294,6 +294,8 @@ impl Library for TinyLibrary {
     ghost lines = { tiny_lines_within };
 
     ghost short = { tiny_short };
+
+    ghost one_line = { tiny_one_line };
 
     ghost utf8 = { tiny_utf8 };
 
