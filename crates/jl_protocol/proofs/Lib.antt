@@ -6,3 +6,4 @@ pub mod Empty
 pub mod LawfulCalls
 pub mod Owning
 pub mod Keeping
+pub mod Fronts

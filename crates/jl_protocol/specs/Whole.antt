@@ -5,6 +5,7 @@ use Rattle.jl_text.specs.declared.limits.TheConstants.{MOST_ENTRY_BYTES}
 use Rattle.jl_value.specs.Tree.{Tree}
 use Rattle.jl_value.specs.Key.{key_of}
 use Rattle.jl_value.specs.Library.{Answer, value}
+use Rattle.jl_value.specs.Lines.{IsLine}
 use Rattle.jl_entry.specs.Codes.{code_text}
 use Rattle.jl_entry.specs.Entry.{Members, IsEntryOf}
 use Rattle.jl_entry.specs.Moments.{IsAccess, IsMetadata}
@@ -15,9 +16,9 @@ use Rattle.jl_entry.specs.declared.names.EntryFile.TheVariants.{Output, Metadata
 abbrev pub most_bytes : ℕ
 most_bytes = MOST_ENTRY_BYTES
 
--- The bytes are a text of the file's format: of a code, whose line's number has 64 bits; of an entry of arguments with its folder's key; of a duration and a moment; of a moment.
+-- The bytes are a text of the file's format: of a code of one line, whose line's number has 64 bits; of an entry of arguments with its folder's key; of a duration and a moment; of a moment.
 abbrev pub IsOfFormat : Final → List ℕ → Type 0
-IsOfFormat (code_of m f) bytes = (code : List ℕ) × (line : ℕ) × (1 ≤ line) × (line ≤ 18446744073709551615) × (bytes ≡ code_text code line)
+IsOfFormat (code_of m f) bytes = (code : List ℕ) × (line : ℕ) × (1 ≤ line) × (line ≤ 18446744073709551615) × IsLine code × (bytes ≡ code_text code line)
 IsOfFormat (entry_of Output m f k) bytes = (code : List ℕ) × (ps : Members) × (t : Tree) × (encode_lower (key_of ps) ≡ k) × IsEntryOf bytes code ps t
 IsOfFormat (entry_of Metadata m f k) bytes = (duration time : ℕ) × IsMetadata bytes duration time
 IsOfFormat (entry_of Access m f k) bytes = (moment : ℕ) × IsAccess bytes moment

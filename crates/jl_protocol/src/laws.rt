@@ -1,5 +1,5 @@
 // What proper and lawful moves keep, whatever the order in which runs make them.
-ghost use Rattle.std.specs.Prelude.{◌≡◌, ◌++◌, List, ℕ, Some};
+ghost use Rattle.std.specs.Prelude.{◌≡◌, ◌≢◌, ◌++◌, [], List, ℕ, Some};
 ghost use Rattle.jl_text.specs.Paths.{PathView};
 ghost use Rattle.jl_folder.specs.State.{State, Trace, IsState, Allowed, IsTrace, place_at, bare_state, after, run};
 ghost use Rattle.jl_folder.specs.declared.moves.Move.{Move};
@@ -61,4 +61,11 @@ pub fn calls_compose()
 /// Whole bytes of a function's code are those of some code, to any reader of the file.
 pub fn whole_codes_are_read()
     ensures { (m f bytes : List ℕ) → IsWhole (code_of m f) bytes → (code : List ℕ) × IsSameCode code bytes }
+{}
+
+/// No proper front of a function's whole code is a whole code: what a run that was cut off had
+/// written so far is never taken for all of it.
+pub fn fronts_of_codes_are_not_whole()
+    ensures { (m f front rest : List ℕ) → rest ≢ [] → IsWhole (code_of m f) (front ++ rest)
+        → IsWhole (code_of m f) front → ⊥ }
 {}

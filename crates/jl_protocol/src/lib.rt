@@ -4,5 +4,6 @@
 mod laws;
 
 pub use laws::{
-    absent_roots_are_sound, calls_compose, moves_keep_stores, runs_compose, whole_codes_are_read,
+    absent_roots_are_sound, calls_compose, fronts_of_codes_are_not_whole, moves_keep_stores,
+    runs_compose, whole_codes_are_read,
 };

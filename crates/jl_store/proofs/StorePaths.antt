@@ -7,6 +7,7 @@ use Rattle.jl_text.specs.Texts.{is_name}
 use Rattle.jl_folder.specs.declared.moves.Move.{Move}
 use Rattle.jl_folder.specs.declared.moves.Move.TheVariants.{MakeDir, Create, Append, Rename, Remove, RemoveDir}
 use Rattle.jl_folder.specs.State.{State}
+use Rattle.jl_value.specs.Lines.{IsLine}
 use Rattle.jl_entry.specs.Codes.{code_text, line_words}
 use Rattle.jl_entry.specs.Names.{code_of, IsStoreFolder, IsStoreName, IsOnWay, IsFolderParts, is_rooted, is_key, IsEntryName, IsFunctionFolder}
 use Rattle.jl_protocol.specs.Whole.{IsWhole}
@@ -79,11 +80,11 @@ module _ (root folder : PathView) (fun : IsFunctionFolder root folder) (last : P
   clearing_puts (RemoveDir p) is = (always_remove_dir root token s p (entry_store root folder is.0 p fun is.1 is.2), tt)
 
 -- the code's text is whole
-pub code_whole : (m f code : List ℕ) (line : ℕ) → 1 ≤ line → line < 2 ^ 64 → length code ≤ 1048576 → IsWhole (code_of m f) (code_text code line)
+pub code_whole : (m f code : List ℕ) (line : ℕ) → 1 ≤ line → line < 2 ^ 64 → length code ≤ 1048576 → IsLine code → IsWhole (code_of m f) (code_text code line)
 unfolding IsWhole
-code_whole m f code line first small short =
+code_whole m f code line first small short one =
     let few = length-decimal-le 20 line (omega arith) (omega arith) small in
     let words : length line_words ≡ 14 = refl in (
       omega (arith, few, words, short, length-append line_words (decimal line ++ 10 ∷ (code ++ 10 ∷ [])), length-append (decimal line) (10 ∷ (code ++ 10 ∷ [])), length-append code (10 ∷ [])),
-      (code, line, first, omega (arith, small), refl),
+      (code, line, first, omega (arith, small), one, refl),
     )

@@ -8,6 +8,7 @@ ghost use Rattle.jl_folder.specs.State.{place_at, has_parent};
 ghost use Rattle.jl_folder.specs.Views.{FolderAnswers, state, moved};
 ghost use Rattle.jl_folder.specs.declared.moves.Place.{Place};
 ghost use Rattle.jl_folder.specs.Calls.{Waits};
+ghost use Rattle.jl_value.specs.Lines.{IsLine};
 ghost use Rattle.jl_entry.specs.Codes.{code_text};
 ghost use Rattle.jl_entry.specs.Names.{Final, IsFinal, IsTemp, root_of, IsFunctionFolder};
 ghost use Rattle.jl_rely.specs.Steps.{IsLone};
@@ -176,6 +177,7 @@ pub fn check_code<F: Folder>(
     requires module_name { IsTrue (is_name memory.now.«module») }
     requires function_name { IsTrue (is_name name.now) }
     requires code { length code.now ≤ MOST_TEXT_BYTES }
+    requires one_line { IsLine code.now }
     requires line { 1 ≤ line }
     ensures frame { FolderAnswers ((result ≡ CodeCheck.LoadFault) ⊎ (result ≡ CodeCheck.StoreFault)) (F.view folder.old) (F.view folder.new) }
     ensures called { (F.view folder.old).told → Called (IsProper (root_of memory.now.location))

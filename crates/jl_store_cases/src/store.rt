@@ -15,7 +15,7 @@ use jl_script::told::{self, Told};
 use jl_store::{Look, Memory, WarnKind, Warning, check_code, keep, look, touch, warning_text};
 use jl_text::limits::{LAST_MOMENT, MOST_TEXT_BYTES};
 use jl_text::{Text, is_name};
-use jl_value::{Args, Value, canonical, canonical_table, digest};
+use jl_value::{Args, Value, canonical, canonical_table, digest, is_line};
 use std::alloc::Global;
 use std::cell::Cell;
 use std::slice;
@@ -69,7 +69,7 @@ fn check<F: Folder>(
 {
     let code = code_of(alloc, given, 1)?;
     let line = given::number(given, 2)?;
-    if line == 0 {
+    if line == 0 || !is_line(code.as_str()) {
         return Err(RowFault::Bad);
     }
     let checked = check_code(alloc, memory, folder, name, code.as_str(), line);

@@ -8,4 +8,4 @@ pub returns : goal.returns
 unfolding IsWhole
 returns c m f bytes whole =
     let of = whole.1 in
-    (of.0, subst (IsSameCode of.0) (sym of.4) (same_written of.0 of.1 (omega (arith, of.3))))
+    (of.0, subst (IsSameCode of.0) (sym of.5) (same_written of.0 of.1 (omega (arith, of.3))))

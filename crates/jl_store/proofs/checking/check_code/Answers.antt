@@ -71,7 +71,7 @@ follow-requires-clause-of_file g c =
     let root = root_of c.args.memory.now.location in
     let code = code_of c.args.memory.now.module c.args.name.now in
     let text : _ ≡ code_text c.args.code.now c.args.line = c.as_slice.ensures ∙ c.in-Ok-write_code.ensures.text in
-    let whole = subst (IsWhole code) (sym text) (code_whole c.args.memory.now.module c.args.name.now c.args.code.now c.args.line c.requires.line (omega arith) c.requires.code) in
+    let whole = subst (IsWhole code) (sym text) (code_whole c.args.memory.now.module c.args.name.now c.args.code.now c.args.line c.requires.line (omega arith) c.requires.code c.requires.one_line) in
     (root, code, subst (λ (u : List ℕ). IsTemp root code u c.in-Ok.files.temp) (sym (c.held-held.ensures.frame.token ∙ c.requires.token)) c.in-Ok.ensures.2, c.in-Ok.ensures.1, whole)
 
 -- what was done after the reading
@@ -88,7 +88,7 @@ stored g c t =
     let files = c.in-Ok.files in
     let code = code_of m f in
     let text : _ ≡ code_text c.args.code.now c.args.line = c.as_slice.ensures ∙ c.in-Ok-write_code.ensures.text in
-    let whole = subst (IsWhole code) (sym text) (code_whole m f c.args.code.now c.args.line c.requires.line (omega arith) c.requires.code) in
+    let whole = subst (IsWhole code) (sym text) (code_whole m f c.args.code.now c.args.line c.requires.line (omega arith) c.requires.code c.requires.one_line) in
     let temp = subst (λ (u : List ℕ). IsTemp root code u files.temp) (sym (token_is g c)) c.in-Ok.ensures.2 in
     subst (λ (b : List ℕ). Called (IsProper root) (PutsThis root files.last b) (MovesFor files c.held-held.result) (IsTidy root) Anywhere mid new) text
     (c.follow.ensures.stores.called (c.held-held.ensures.frame.told t) root code (m, f, c.requires.module_name, c.requires.function_name, c.in-Ok.ensures.0) temp c.in-Ok.ensures.1 whole)
@@ -152,7 +152,7 @@ returns-clause-skipped g c = λ t is orderly.
     let code = code_of m f in
     let told = c.held-held.ensures.frame.told t in
     let text : _ ≡ code_text c.args.code.now c.args.line = c.as_slice.ensures ∙ c.in-Ok-write_code.ensures.text in
-    let whole = subst (IsWhole code) (sym text) (code_whole m f c.args.code.now c.args.line c.requires.line (omega arith) c.requires.code) in
+    let whole = subst (IsWhole code) (sym text) (code_whole m f c.args.code.now c.args.line c.requires.line (omega arith) c.requires.code c.requires.one_line) in
     let temp = subst (λ (u : List ℕ). IsTemp root code u files.temp) (sym (token_is g c)) c.in-Ok.ensures.2 in
     let touched = skips_held root m f token files c.in-Ok.ensures c.args.code.now c.held-held.result old mid new c.held-held.ensures.frame.token (c.held-held.ensures.waits t) (c.follow.ensures.stores.goes told) (c.held-held.ensures.holds t)
     (λ tidy_mid all_mid pre. c.follow.ensures.skips told is root m f c.requires.module_name c.requires.function_name (c.in-Ok.ensures.0, c.in-Ok.ensures.1, temp) whole tidy_mid all_mid pre)
