@@ -141,7 +141,7 @@ fn outcome_of(alloc: Global, code: &str, args: &Args) -> Called
 impl Library for Lang {
     ghost use Rattle.jl_module.specs.Modules.{code_in, line_in, fault_of};
     ghost use Rattle.jl_lang.specs.Meaning.{answer_of};
-    ghost use Rattle.jl_module.specs.ModuleLaws.{code_named, lines_from_one, code_short, module_utf8};
+    ghost use Rattle.jl_module.specs.ModuleLaws.{code_named, lines_from_one, code_short, code_is_one_line, module_utf8};
     ghost use Rattle.jl_lang.specs.AnswerLaws.{answers_within};
 
     ghost code = { code_in };
@@ -205,6 +205,8 @@ impl Library for Lang {
     ghost lines = { lines_from_one };
 
     ghost short = { code_short };
+
+    ghost one_line = { code_is_one_line };
 
     ghost utf8 = { module_utf8 };
 

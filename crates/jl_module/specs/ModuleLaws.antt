@@ -1,14 +1,16 @@
--- The laws of a module: codes of names alone, lines from 1, no code longer than its module, and no module that is no text.
+-- The laws of a module: codes of names alone, each of one line, lines from 1, no code longer than its module, and no module that is no text.
 -- Machinery: nothing here need be believed.
-use Rattle.std.specs.Prelude.{◌≡◌, ◌≤◌, ◌<◌, ℕ, zero, suc, ◌+◌, Bool, true, false, ◌&&◌, nat_eq, nat_lt, if◌then◌else◌, List, [], ◌∷◌, ◌++◌, length, Option, Some, None, option_map, IsTrue, refl}
+use Rattle.std.specs.Prelude.{◌≡◌, ◌≤◌, ◌<◌, ℕ, zero, suc, ◌+◌, Bool, true, false, ◌&&◌, nat_eq, nat_lt, not, if◌then◌else◌, List, [], ◌∷◌, ◌++◌, length, Option, Some, None, option_map, IsTrue, refl}
 use Rattle.std.proofs.Common.{arith, sym, ap, subst, ◌∙◌, true≢false, get_or}
 use Rattle.std.specs.Option.{option_map_or}
-use Rattle.std.specs.List.{onto_first, list_any}
+use Rattle.std.specs.List.{onto_first, list_any, list_all}
 use Rattle.std.specs.Str.{is_utf8, IsUtf8, bytes_eq}
 use Rattle.std.proofs.lemmas.Str.{IsUtf8-append, IsUtf8-nil, IsUtf8-from_is_utf8, IsUtf8-from_ascii}
+use Rattle.std.proofs.lemmas.Bool.{and_parts, and_from}
 use Rattle.jl_text.specs.Texts.{is_name}
 use Rattle.jl_value.specs.declared.library.ModuleFault.{ModuleFault}
 use Rattle.jl_value.specs.declared.library.ModuleFaultKind.{ModuleFaultKind}
+use Rattle.jl_value.specs.Lines.{is_line, IsLine}
 use Rattle.jl_lexer.specs.Words.{is_identifier}
 use Rattle.jl_module.specs.Modules.{lines, trimmed, before_end, is_trailing, Line, remark, faulty, defines, read_line, after_line, first_fault, fault_of, begins_definition, Found, find_from, find, code_in, line_in}
 
@@ -106,6 +108,52 @@ code_short m n c e = short_by (length m) (find m n) c (find_within m n) e
 
 pub lines_from_one : (m n c : List ℕ) → code_in m n ≡ Some c → (1 ≤ line_in m n) × (line_in m n ≤ length m + 1)
 lines_from_one m n c e = lines_by (length m) (find m n) c (find_within m n) e
+
+-- ---- one line
+
+with_byte : (b : ℕ) (l : List ℕ) → nat_eq b 10 ≡ false → is_line l ≡ true → is_line (b ∷ l) ≡ true
+with_byte b l is e = and_from (not (nat_eq b 10)) (is_line l) (ap not is) e
+
+line_step : (t : Bool) (b : ℕ) (ls : List (List ℕ)) → nat_eq b 10 ≡ t → list_all is_line ls ≡ true → list_all is_line (if t then [] ∷ ls else onto_first b ls) ≡ true
+line_step true b ls is e = e
+line_step false b [] is e = and_from (is_line (b ∷ [])) true (with_byte b [] is refl) refl
+line_step false b (l ∷ ls) is e =
+    let parts = and_parts (is_line l) (list_all is_line ls) e in and_from (is_line (b ∷ l)) (list_all is_line ls) (with_byte b l is parts.0) parts.1
+
+-- each line of a module is one line
+lines_one : (m : List ℕ) → list_all is_line (lines m) ≡ true
+lines_one [] = refl
+lines_one (b ∷ bs) = line_step (nat_eq b 10) b (lines bs) refl (lines_one bs)
+
+end_one : (t : Bool) (b : ℕ) → is_line (b ∷ []) ≡ true → is_line (if t then [] else b ∷ []) ≡ true
+end_one true b e = refl
+end_one false b e = e
+
+-- a byte before what is left of the bytes behind it
+ends_one : (b : ℕ) (ts : List ℕ) → not (nat_eq b 10) ≡ true → is_line ts ≡ true → is_line (before_end b ts) ≡ true
+ends_one b [] first e = end_one (is_trailing b) b (and_from (not (nat_eq b 10)) true first refl)
+ends_one b (t ∷ ts) first e = and_from (not (nat_eq b 10)) (is_line (t ∷ ts)) first e
+
+trimmed_one : (l : List ℕ) → is_line l ≡ true → is_line (trimmed l) ≡ true
+trimmed_one [] e = refl
+trimmed_one (b ∷ bs) e = let parts = and_parts (not (nat_eq b 10)) (is_line bs) e in ends_one b (trimmed bs) parts.0 (trimmed_one bs parts.1)
+
+one_if : (t : Bool) (f : Found) (o : Option Found) → IsLine f.code → IfFound (λ d. IsLine d.code) o → IfFound (λ d. IsLine d.code) (if t then Some f else o)
+one_if true f o h more = h
+one_if false f o h more = more
+
+found_one : (n : ℕ) (name : List ℕ) (ls : List (List ℕ)) → list_all is_line ls ≡ true → IfFound (λ f. IsLine f.code) (find_from n name ls)
+found_one n name [] e = tt
+found_one n name (l ∷ ls) e =
+    let parts = and_parts (is_line l) (list_all is_line ls) e in
+    one_if (begins_definition name (trimmed l)) (record { code = trimmed l; line = n }) (find_from (n + 1) name ls) (trimmed_one l parts.0) (found_one (n + 1) name ls parts.1)
+
+one_by : (o : Option Found) (c : List ℕ) → IfFound (λ f. IsLine f.code) o → option_map (λ f. f.code) o ≡ Some c → IsLine c
+one_by None c h e = absurd (cc)
+one_by (Some f) c h e = let same : f.code ≡ c = cc in subst IsLine same h
+
+pub code_is_one_line : (m n c : List ℕ) → code_in m n ≡ Some c → IsLine c
+code_is_one_line m n c e = one_by (find m n) c (find_if (is_identifier n) _ _ (found_one 1 n (lines m) (lines_one m))) e
 
 -- ---- a module is a text
 

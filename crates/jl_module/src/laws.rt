@@ -2,6 +2,7 @@
 ghost use Rattle.std.specs.Prelude.{◌≡◌, ℕ, List, Some, None};
 ghost use Rattle.jl_syntax.specs.Trees.{Expression};
 ghost use Rattle.jl_value.specs.declared.library.ModuleFaultKind.TheVariants.{BadLine, TooDeep};
+ghost use Rattle.jl_value.specs.Lines.{IsLine};
 ghost use Rattle.jl_module.specs.Headings.{Heading, with_body, judged, bad, definition_in};
 ghost use Rattle.jl_module.specs.Refusals.{IsDeepLine, IsBadLine};
 ghost use Rattle.jl_module.specs.Modules.{fault_of, code_in, Defines};
@@ -19,6 +20,12 @@ pub fn a_line_is_judged_by_its_tree()
 pub fn a_code_defines_its_name()
     ensures { (module_bytes name code : List ℕ) → fault_of module_bytes ≡ None
         → code_in module_bytes name ≡ Some code → Defines code name }
+{}
+
+/// The code of a name is one line, since a module is cut at its newlines.
+pub fn a_code_is_one_line()
+    ensures { (module_bytes name code : List ℕ) → code_in module_bytes name ≡ Some code
+        → IsLine code }
 {}
 
 /// A line is too deep only where its expression opens more than 128 brackets or its tree is higher
