@@ -23,8 +23,8 @@ use Rattle.jl_memory.specs.declared.memory.MemFolder.{MemFolder}
 use Rattle.jl_memory.specs.Tables.{state_of}
 use Rattle.jl_memory.specs.Disk.{LetsMove}
 use Rattle.jl_memory.specs.Memory.{mem_state, IsTold, folder_view}
-use Rattle.jl_memory.specs.Scripts.{is_failing, is_cut, fails, moves_before, made_by_others, Plays, SameScript, Obeys, ObeysAppend, MakesOne, CutsAppend, torn_of}
-use Rattle.jl_memory.specs.Steps.{Interlude, Begins, Acts, Makes, Stays}
+use Rattle.jl_memory.specs.Scripts.{is_failing, is_cut, fails, moves_before, made_by_others, PlaysScript, SameScript, Obeys, ObeysAppend, MakesOne, CutsAppend, torn_of}
+use Rattle.jl_memory.specs.Steps.{Interlude, Begins, Acts, MakesMove, Stays}
 use Rattle.jl_memory.proofs.LetLemmas.{state_on}
 use Rattle.jl_memory.proofs.ToldLemmas.{told_counted}
 use Rattle.jl_memory.proofs.OthersLemmas.{filter_foreign, idle_interlude, cut_kept, torn_kept}
@@ -94,7 +94,7 @@ others_are a c others own foreign trace =
     made_of : List ℕ → Trace → Trace
     made_of me moves = filter (λ e. not (bytes_eq e.0 me)) moves
 
-pub plays_begun : (a b : MemFolder) (r : Bool) → Begins r a b → Plays a b
+pub plays_begun : (a b : MemFolder) (r : Bool) → Begins r a b → PlaysScript a b
 plays_begun a b r g = record {
   script = g.script;
   moved = λ t.
@@ -103,7 +103,7 @@ plays_begun a b r g = record {
       record { lost = i.lost; counts = i.counts; lets = subst (LetsMove i.lost (mem_state a) (moves_before a)) (sym others) i.lets };
 }
 
-pub plays_acted : (a b c : MemFolder) (r : Bool) (Fails : Type 0) (Answer : State → Option Move → Type 0) → Begins r a b → Acts Fails Answer b c → Plays a c
+pub plays_acted : (a b c : MemFolder) (r : Bool) (Fails : Type 0) (Answer : State → Option Move → Type 0) → Begins r a b → Acts Fails Answer b c → PlaysScript a c
 plays_acted a b c r Fails Answer g act = record {
   script = record {
     calls = act.script.calls ∙ g.script.calls;
@@ -218,7 +218,7 @@ acts_stays b c Fails Answer stays fine answer = record {
 }
 
 -- one that makes a move
-pub acts_made : (b c : MemFolder) (change : Move) (Fails : Type 0) (Answer : State → Option Move → Type 0) → Makes change b c → (Fails → ⊥) → (IsTold b → Allowed (mem_state b) change × Answer (mem_state b) (Some change)) → Acts Fails Answer b c
+pub acts_made : (b c : MemFolder) (change : Move) (Fails : Type 0) (Answer : State → Option Move → Type 0) → MakesMove change b c → (Fails → ⊥) → (IsTold b → Allowed (mem_state b) change × Answer (mem_state b) (Some change)) → Acts Fails Answer b c
 acts_made b c change Fails Answer made fine answer = record {
   told = λ t. made.told t (answer t).0;
   moved = λ t. record { own = Some change; trace = made.trace; lawful = ((answer t).0, tt); answer = (answer t).1 };

@@ -18,7 +18,7 @@ use Rattle.jl_text.specs.Paths.{PathView, path_eq, is_part, IsPath}
 use Rattle.jl_folder.specs.State.{State, is_folder_place}
 use Rattle.jl_folder.specs.Listing.{StandsRight}
 use Rattle.jl_memory.specs.Tables.{found, Agrees}
-use Rattle.jl_memory.specs.Children.{IsBelow, StandsIn}
+use Rattle.jl_memory.specs.Children.{IsChild, StandsIn}
 use Rattle.jl_folder.proofs.PathLemmas.{path_eq-Decides}
 
 -- a name is settled by its part
@@ -60,7 +60,7 @@ ChildrenSoFar-none places p (n ∷ names) e = absurd (cc)
 
 -- past an entry that adds none
 pub ChildrenSoFar-kept : (places : List (PathView × Option Place)) (p : PathView) (names names' : List Name) (i : ℕ) (x : PathView × Option Place) → i < length places → x ≡ get_or places i x
-    → names' ≡ names → ((name : Name) → StandsIn places p name → IsBelow x.0 p name.part → Contains names name)
+    → names' ≡ names → ((name : Name) → StandsIn places p name → IsChild x.0 p name.part → Contains names name)
     → ChildrenSoFar places p names (drop i places) → ChildrenSoFar places p names' (drop (i + 1) places)
 ChildrenSoFar-kept places p names names' i x lt is same settled before =
     subst (λ ns. ChildrenSoFar places p ns (drop (i + 1) places)) (sym same) (record {
@@ -72,13 +72,13 @@ ChildrenSoFar-kept places p names names' i x lt is same settled before =
 
 -- past an entry that adds one
 pub ChildrenSoFar-more : (places : List (PathView × Option Place)) (p : PathView) (names names' : List Name) (n : Name) (i : ℕ) (x : PathView × Option Place) → i < length places → x ≡ get_or places i x
-    → names' ≡ names ++ n ∷ [] → IsTrue (is_part n.part) → StandsIn places p n → IsBelow x.0 p n.part → list_any (λ m. bytes_eq n.part m.part) names ≡ false
+    → names' ≡ names ++ n ∷ [] → IsTrue (is_part n.part) → StandsIn places p n → IsChild x.0 p n.part → list_any (λ m. bytes_eq n.part m.part) names ≡ false
     → ChildrenSoFar places p names (drop i places) → ChildrenSoFar places p names' (drop (i + 1) places)
 ChildrenSoFar-more places p names names' n i x lt is more part stands below fresh before =
     subst (λ ns. ChildrenSoFar places p ns (drop (i + 1) places)) (sym more) (record {
       each = λ name held. elim (Contains-push_cases names n name held) [ inl old ↦ before.each name old | inr new ↦ subst (StandsIn places p) new stands ];
       every = λ name other.
-          let added : IsBelow x.0 p name.part → Contains (names ++ n ∷ []) name =
+          let added : IsChild x.0 p name.part → Contains (names ++ n ∷ []) name =
           λ there. subst (Contains (names ++ n ∷ [])) (StandsIn-once places p n name stands other ((same_from_push p p n.part name.part (sym below.path ∙ there.path)).1)) (Contains-push names n) in
           let old : Contains (names ++ n ∷ []) name ⊎ (found (drop i places) (p ++ name.part ∷ []) ≡ found places (p ++ name.part ∷ [])) =
           elim (before.every name other) [ inl held ↦ inl (Contains-append_left names (n ∷ []) name held) | inr later ↦ inr later ] in
@@ -97,11 +97,11 @@ held_already places p names part each held name stands same =
     subst (Contains names) (sym (StandsIn-once places p name m stands (each m there) found_part)) there
 
 -- one path is below another by one part
-pub part_same : (child p : PathView) (a b : List ℕ) → IsBelow child p a → IsBelow child p b → a ≡ b
+pub part_same : (child p : PathView) (a b : List ℕ) → IsChild child p a → IsChild child p b → a ≡ b
 part_same child p a b one other = (same_from_push p p a b (sym one.path ∙ other.path)).1
 
 -- a path that names nothing has no name that stands
-pub untold : (places : List (PathView × Option Place)) (p child : PathView) (name : Name) → found places child ≡ None → StandsIn places p name → IsBelow child p name.part → ⊥
+pub untold : (places : List (PathView × Option Place)) (p child : PathView) (name : Name) → found places child ≡ None → StandsIn places p name → IsChild child p name.part → ⊥
 untold places p child name nothing stands below =
     let told : found places child ≡ Some stands.place = ap (found places) below.path ∙ stands.found_is in
     let none : ◌≡◌ {A = Option Place} None (Some stands.place) = sym nothing ∙ told in cc

@@ -13,13 +13,13 @@ use Rattle.jl_folder.proofs.Looks.{node_at-after}
 use Rattle.jl_memory.specs.declared.disk.Disk.{Disk}
 use Rattle.jl_memory.specs.declared.memory.MemFolder.{MemFolder}
 use Rattle.jl_memory.specs.Tables.{state_of, found_node}
-use Rattle.jl_memory.specs.Disk.{disk_state, IsSound}
+use Rattle.jl_memory.specs.Disk.{disk_state, IsConsistent}
 use Rattle.jl_memory.specs.Memory.{mem_state, IsTold}
 use Rattle.jl_memory.specs.Scripts.{IsLeastFree}
 use Rattle.jl_memory.proofs.LetLemmas.{state_on}
 
 -- the open numbers stay on nodes that are there
-pub told_on : (m m' : MemFolder) (es : Trace) → IsTold m → IsSound m'.disk → m'.disk.start ≡ m.disk.start → m'.disk.trace.items ≡ m.disk.trace.items ++ es → m'.opens.items ≡ m.opens.items → m'.begun ≡ m.begun
+pub told_on : (m m' : MemFolder) (es : Trace) → IsTold m → IsConsistent m'.disk → m'.disk.start ≡ m.disk.start → m'.disk.trace.items ≡ m.disk.trace.items ++ es → m'.opens.items ≡ m.opens.items → m'.begun ≡ m.begun
     → All (λ o. IsForeign m'.token o.1.items) m'.others.items → IsTold m'
 told_on m m' es told sound start trace opens begun foreign = record {
   disk = sound;
@@ -44,7 +44,7 @@ told_numbered m n told = record { disk = told.disk; opens = told.opens; foreign 
 pub told_open : (m m' : MemFolder) → IsTold m → m'.disk ≡ m.disk → m'.token ≡ m.token → m'.others ≡ m.others → m'.begun ≡ m.begun
     → ((number : ℕ) (file : OpenFile) → opens_of m'.opens.items number ≡ Some file → IsSome (node_at (mem_state m) file.node)) → IsTold m'
 told_open m m' told disk token others begun opens = record {
-  disk = subst IsSound (sym disk) told.disk;
+  disk = subst IsConsistent (sym disk) told.disk;
   opens = λ number file is. subst (λ d. IsSome (node_at (disk_state d) file.node)) (sym disk) (opens number file is);
   foreign = subst (λ os. All (λ o. IsForeign m'.token o.1.items) os.items) (sym others) (subst (λ t. All (λ o. IsForeign t o.1.items) m.others.items) (sym token) told.foreign);
   begun = subst (λ n. n ≤ length m'.disk.trace.items) (sym begun) (subst (λ d. m.begun ≤ length d.trace.items) (sym disk) told.begun);
@@ -68,7 +68,7 @@ open_closed s opens place each number file =
     ]
 
 -- the node that a name names is there
-pub sound_named : (d : Disk) → IsSound d → (p : PathView) (n : ℕ) → place_at (disk_state d) p ≡ Some (File n) → IsSome (node_at (disk_state d) n)
+pub sound_named : (d : Disk) → IsConsistent d → (p : PathView) (n : ℕ) → place_at (disk_state d) p ≡ Some (File n) → IsSome (node_at (disk_state d) n)
 sound_named d sound p n is = names-kept_run (state_of d.start) d.trace.items sound.start.nodes p n is
 
 -- a node that was made is there

@@ -12,7 +12,7 @@ use Rattle.jl_folder.specs.Listing.{StandsRight}
 use Rattle.jl_memory.specs.Tables.{found}
 
 -- the path below this one, by a part that isn't empty: the topmost folder, whose one part is empty, stands below no path
-pub record IsBelow (child p : PathView) (part : List ℕ) : Type 0 where
+pub record IsChild (child p : PathView) (part : List ℕ) : Type 0 where
   pub path : child ≡ p ++ part ∷ []
   pub named : part ≢ []
 

@@ -10,7 +10,7 @@ abbrev pub disk_state : Disk → State
 disk_state d = run (state_of d.start) d.trace.items
 
 -- the tables answer as that state, and each move was allowed
-pub record IsSound (d : Disk) : Type 0 where
+pub record IsConsistent (d : Disk) : Type 0 where
   pub agrees : Agrees (disk_state d) d.places.items d.nodes.items
   pub start : IsState (state_of d.start)
   pub trace : IsTrace (state_of d.start) d.trace.items

@@ -5,7 +5,7 @@ use Rattle.jl_folder.specs.declared.moves.OpenFile.{OpenFile}
 use Rattle.jl_folder.specs.State.{State, History, IsHistory, IsForeign, node_at}
 use Rattle.jl_folder.specs.Views.{FolderView}
 use Rattle.jl_memory.specs.Tables.{state_of}
-use Rattle.jl_memory.specs.Disk.{disk_state, IsSound}
+use Rattle.jl_memory.specs.Disk.{disk_state, IsConsistent}
 use Rattle.jl_folder.specs.OpenTable.{opens_of}
 
 -- the state after all moves
@@ -18,7 +18,7 @@ mem_history m = record { start = state_of m.disk.start; trace = m.disk.trace.ite
 
 -- what a folder in memory keeps, so that what it tells is true
 pub record IsTold (m : MemFolder) : Type 0 where
-  pub disk : IsSound m.disk
+  pub disk : IsConsistent m.disk
   pub opens : (number : ℕ) (file : OpenFile) → opens_of m.opens.items number ≡ Some file → IsSome (node_at (mem_state m) file.node)
   pub foreign : All (λ o. IsForeign m.token o.1.items) m.others.items
   pub begun : m.begun ≤ length m.disk.trace.items

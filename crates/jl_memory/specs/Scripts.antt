@@ -61,7 +61,7 @@ pub record OthersMove (old new : MemFolder) : Type 0 where
   pub lets : LetsMove lost (mem_state old) (moves_before old) (made_by_others old new)
 
 -- what a call plays of the script: one number is used up, and the moves of others under it
-pub record Plays (old new : MemFolder) : Type 0 where
+pub record PlaysScript (old new : MemFolder) : Type 0 where
   pub script : PlaysOn old new
   pub moved : IsTold old → OthersMove old new
 
@@ -75,12 +75,12 @@ pub record SameScript (old new : MemFolder) : Type 0 where
   pub others : new.others.items ≡ old.others.items
 
 -- the run made no move
-abbrev pub IsIdle : MemFolder → MemFolder → Type 0
-IsIdle old new = own_moves old.token new.disk.trace.items ≡ own_moves old.token old.disk.trace.items
+abbrev pub NoOwnMove : MemFolder → MemFolder → Type 0
+NoOwnMove old new = own_moves old.token new.disk.trace.items ≡ own_moves old.token old.disk.trace.items
 
 -- a call fails exactly where it is to fail, and then makes no move
 pub record Obeys (Fails : Type 0) (old new : MemFolder) : Type 0 where
-  pub failing : fails old ≡ true → Fails × IsIdle old new
+  pub failing : fails old ≡ true → Fails × NoOwnMove old new
   pub runs : fails old ≡ false → Fails → ⊥
 
 -- how many bytes of n an append adds at which the run is cut off; none, where one was cut off before
@@ -101,20 +101,20 @@ pub record AddsPiece (old new : MemFolder) (number : ℕ) (piece : List ℕ) : T
 
 -- what an append does where the run is cut off: it adds that many bytes, for which memory may want, or nothing
 abbrev pub CutsAppend : MemFolder → MemFolder → ℕ → List ℕ → Appended → Option ℕ → Type 0
-CutsAppend old new number bytes answer None = (answer ≡ appended.Failed) × IsIdle old new
-CutsAppend old new number bytes answer (Some k) = ((answer ≡ appended.Failed) × AddsPiece old new number (take k bytes)) ⊎ ((answer ≡ appended.NoMemory) × IsIdle old new)
+CutsAppend old new number bytes answer None = (answer ≡ appended.Failed) × NoOwnMove old new
+CutsAppend old new number bytes answer (Some k) = ((answer ≡ appended.Failed) × AddsPiece old new number (take k bytes)) ⊎ ((answer ≡ appended.NoMemory) × NoOwnMove old new)
 
 -- an append fails where its number is one of those that fail, and then makes no move; where the run is cut off at it or before, it does what it does there; and else it doesn't fail
 pub record ObeysAppend (number : ℕ) (bytes : List ℕ) (answer : Appended) (old new : MemFolder) : Type 0 where
-  pub failing : is_failing old ≡ true → (answer ≡ appended.Failed) × IsIdle old new
+  pub failing : is_failing old ≡ true → (answer ≡ appended.Failed) × NoOwnMove old new
   pub cut : is_failing old ≡ false → is_cut old ≡ true → CutsAppend old new number bytes answer (torn_of old (length bytes))
   pub runs : fails old ≡ false → answer ≢ appended.Failed
 
 -- all n bytes are added, where some are
-abbrev pub WritesAll : ℕ → Appended → Type 0
-WritesAll n (appended.Wrote k) = k ≡ n
-WritesAll n appended.Failed = Unit {0}
-WritesAll n appended.NoMemory = Unit {0}
+abbrev pub AppendsAll : ℕ → Appended → Type 0
+AppendsAll n (appended.Wrote k) = k ≡ n
+AppendsAll n appended.Failed = Unit {0}
+AppendsAll n appended.NoMemory = Unit {0}
 
 -- as many bytes are read as the node has from the offset on and the buffer holds
 abbrev pub ReadsAll : MemFolder → ℕ → ℕ → ℕ → ReadAt → Type 0

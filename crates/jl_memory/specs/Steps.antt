@@ -72,7 +72,7 @@ pub record Acts (Fails : Type 0) (Answer : State → Option Move → Type 0) (ol
   pub script : SameScript old new
 
 -- nothing that is told changes but the trace
-pub record Keeps (old new : MemFolder) : Type 0 where
+pub record ChangesTraceOnly (old new : MemFolder) : Type 0 where
   pub start : new.disk.start ≡ old.disk.start
   pub unmade : new.disk.unmade ≡ old.disk.unmade
   pub token : new.token ≡ old.token
@@ -81,19 +81,19 @@ pub record Keeps (old new : MemFolder) : Type 0 where
   pub script : SameScript old new
 
 -- the run made this move
-pub record Makes (change : Move) (old new : MemFolder) : Type 0 where
+pub record MakesMove (change : Move) (old new : MemFolder) : Type 0 where
   pub told : IsTold old → Allowed (mem_state old) change → IsTold new
   pub trace : new.disk.trace.items ≡ old.disk.trace.items ++ (old.token, change) ∷ []
-  pub keeps : Keeps old new
+  pub keeps : ChangesTraceOnly old new
 
 -- the run made no move, for want of memory
 pub record Stays (old new : MemFolder) : Type 0 where
   pub told : IsTold old → IsTold new
   pub trace : new.disk.trace.items ≡ old.disk.trace.items
-  pub keeps : Keeps old new
+  pub keeps : ChangesTraceOnly old new
 
 -- the run added this piece to the node of a number
-pub record Adds (number : ℕ) (piece : List ℕ) (old new : MemFolder) : Type 0 where
+pub record AddsToNode (number : ℕ) (piece : List ℕ) (old new : MemFolder) : Type 0 where
   pub file : OpenFile
   pub was_open : opens_of old.opens.items number ≡ Some file
-  pub made : Makes (Append file.node piece) old new
+  pub made : MakesMove (Append file.node piece) old new

@@ -4,7 +4,7 @@ ghost use Rattle.jl_folder.specs.Calls.{MakesDir, CreatesFile, AppendsBytes, Ren
 ghost use Rattle.jl_folder.specs.Listing.{ListsParts};
 ghost use Rattle.jl_folder.specs.OpenTable.{opens_of};
 ghost use Rattle.jl_memory.specs.Memory.{mem_state, IsTold};
-ghost use Rattle.jl_memory.specs.Scripts.{WritesAll, ReadsAll, TakesLeast};
+ghost use Rattle.jl_memory.specs.Scripts.{AppendsAll, ReadsAll, TakesLeast};
 ghost use Rattle.jl_memory.specs.Children.{ListsHere};
 ghost use Rattle.jl_memory.specs.Steps.{Acts};
 
@@ -72,7 +72,7 @@ impl MemFolder {
         requires { IsMade (opens_of self.old.opens.items) number.0 }
         ensures acts { Acts (result ≡ Appended.Failed) (AppendsBytes number.0 bytes.now (opens_of self.old.opens.items) result) self.old self.new }
         ensures opens { self.new.opens.items ≡ self.old.opens.items }
-        ensures whole { WritesAll (length bytes.now) result }
+        ensures whole { AppendsAll (length bytes.now) result }
         ensures fine { result ≢ Appended.Failed }
     {
         if self.add_piece(number, bytes) {

@@ -5,7 +5,7 @@ ghost use Rattle.jl_folder.specs.Views.{FolderAnswers, FolderTurns, state, moved
 ghost use Rattle.jl_folder.specs.Listing.{ListsFolder, ListsParts};
 ghost use Rattle.jl_folder.specs.Calls.{Call, Waits, MakesDir, CreatesFile, AppendsBytes, AppendsSome, RenamesFile, RemovesFile, RemovesFolder, OpensFile, ReadsBytes, ReadsWithin, SizesFile, NoMove, IsMade, IsOpen, CreatedOpens, OpenedOpens};
 ghost use Rattle.jl_memory.specs.Memory.{IsTold, folder_view};
-ghost use Rattle.jl_memory.specs.Scripts.{Plays, Obeys, ObeysAppend, WritesAll, ReadsAll, TakesLeast};
+ghost use Rattle.jl_memory.specs.Scripts.{PlaysScript, Obeys, ObeysAppend, AppendsAll, ReadsAll, TakesLeast};
 
 use crate::memory::MemFolder;
 use crate::opens::close_at;
@@ -25,7 +25,7 @@ impl Folder for MemFolder {
     fn make_dir(&mut self, path: &Path) -> MadeDir
         ensures call { IsTold self.old → Call (folder_view self.old) (folder_view self.new) (MakesDir path.now result) }
         ensures frame { FolderAnswers (result ≡ MadeDir.Failed) (folder_view self.old) (folder_view self.new) }
-        ensures plays { Plays self.old self.new }
+        ensures plays { PlaysScript self.old self.new }
         ensures obeys { IsTold self.old → Obeys (result ≡ MadeDir.Failed) self.old self.new }
     {
         if self.begin() {
@@ -38,7 +38,7 @@ impl Folder for MemFolder {
         ensures call { IsTold self.old → Call (folder_view self.old) (folder_view self.new) (CreatesFile path.now (folder_view self.new).opens result) }
         ensures opens { CreatedOpens result (folder_view self.old).opens (folder_view self.new).opens }
         ensures frame { FolderTurns (result ≡ Created.Failed) (folder_view self.old) (folder_view self.new) }
-        ensures plays { Plays self.old self.new }
+        ensures plays { PlaysScript self.old self.new }
         ensures obeys { IsTold self.old → Obeys (result ≡ Created.Failed) self.old self.new }
         ensures least { IsTold self.old → TakesLeast self.new result }
     {
@@ -53,9 +53,9 @@ impl Folder for MemFolder {
         ensures call { IsTold self.old → Call (folder_view self.old) (folder_view self.new) (AppendsBytes number.0 bytes.now (folder_view self.old).opens result) }
         ensures some { AppendsSome (length bytes.now) result }
         ensures frame { FolderAnswers (result ≡ Appended.Failed) (folder_view self.old) (folder_view self.new) }
-        ensures plays { Plays self.old self.new }
+        ensures plays { PlaysScript self.old self.new }
         ensures obeys { IsTold self.old → ObeysAppend number.0 bytes.now result self.old self.new }
-        ensures whole { WritesAll (length bytes.now) result }
+        ensures whole { AppendsAll (length bytes.now) result }
     {
         if self.start_append() {
             return Appended::Failed;
@@ -70,7 +70,7 @@ impl Folder for MemFolder {
         requires { from.now ≢ to.now }
         ensures call { IsTold self.old → Call (folder_view self.old) (folder_view self.new) (RenamesFile from.now to.now result) }
         ensures frame { FolderAnswers (result ≡ Renamed.Failed) (folder_view self.old) (folder_view self.new) }
-        ensures plays { Plays self.old self.new }
+        ensures plays { PlaysScript self.old self.new }
         ensures obeys { IsTold self.old → Obeys (result ≡ Renamed.Failed) self.old self.new }
     {
         if self.begin() {
@@ -82,7 +82,7 @@ impl Folder for MemFolder {
     fn remove(&mut self, path: &Path) -> Removed
         ensures call { IsTold self.old → Call (folder_view self.old) (folder_view self.new) (RemovesFile path.now result) }
         ensures frame { FolderAnswers (result ≡ Removed.Failed) (folder_view self.old) (folder_view self.new) }
-        ensures plays { Plays self.old self.new }
+        ensures plays { PlaysScript self.old self.new }
         ensures obeys { IsTold self.old → Obeys (result ≡ Removed.Failed) self.old self.new }
     {
         if self.begin() {
@@ -94,7 +94,7 @@ impl Folder for MemFolder {
     fn remove_dir(&mut self, path: &Path) -> RemovedDir
         ensures call { IsTold self.old → Call (folder_view self.old) (folder_view self.new) (RemovesFolder path.now result) }
         ensures frame { FolderAnswers (result ≡ RemovedDir.Failed) (folder_view self.old) (folder_view self.new) }
-        ensures plays { Plays self.old self.new }
+        ensures plays { PlaysScript self.old self.new }
         ensures obeys { IsTold self.old → Obeys (result ≡ RemovedDir.Failed) self.old self.new }
     {
         if self.begin() {
@@ -107,7 +107,7 @@ impl Folder for MemFolder {
         ensures call { IsTold self.old → Call (folder_view self.old) (folder_view self.new) (OpensFile path.now (folder_view self.new).opens result) }
         ensures opens { OpenedOpens result (folder_view self.old).opens (folder_view self.new).opens }
         ensures frame { FolderTurns (result ≡ Opened.Failed) (folder_view self.old) (folder_view self.new) }
-        ensures plays { Plays self.old self.new }
+        ensures plays { PlaysScript self.old self.new }
         ensures obeys { IsTold self.old → Obeys (result ≡ Opened.Failed) self.old self.new }
     {
         if self.begin() {
@@ -122,7 +122,7 @@ impl Folder for MemFolder {
         ensures call { IsTold self.old → Call (folder_view self.old) (folder_view self.new) (ReadsBytes number.0 at buf.old buf.new (folder_view self.old).opens result) }
         ensures within { ReadsWithin (length buf.old) result }
         ensures frame { FolderAnswers (result ≡ ReadAt.Failed) (folder_view self.old) (folder_view self.new) }
-        ensures plays { Plays self.old self.new }
+        ensures plays { PlaysScript self.old self.new }
         ensures obeys { IsTold self.old → Obeys (result ≡ ReadAt.Failed) self.old self.new }
         ensures whole { IsTold self.old → ReadsAll self.new number.0 at (length buf.old) result }
     {
@@ -135,7 +135,7 @@ impl Folder for MemFolder {
     fn size(&mut self, path: &Path) -> SizeOf
         ensures call { IsTold self.old → Call (folder_view self.old) (folder_view self.new) (SizesFile path.now result) }
         ensures frame { FolderAnswers (result ≡ SizeOf.Failed) (folder_view self.old) (folder_view self.new) }
-        ensures plays { Plays self.old self.new }
+        ensures plays { PlaysScript self.old self.new }
         ensures obeys { IsTold self.old → Obeys (result ≡ SizeOf.Failed) self.old self.new }
     {
         if self.begin() {
@@ -149,7 +149,7 @@ impl Folder for MemFolder {
         ensures names { IsTold self.old → ListsFolder path.now result (state (folder_view self.old)) (moved (folder_view self.old) (folder_view self.new)) }
         ensures parts { ListsParts result }
         ensures frame { FolderAnswers (result ≡ Listed.Failed) (folder_view self.old) (folder_view self.new) }
-        ensures plays { Plays self.old self.new }
+        ensures plays { PlaysScript self.old self.new }
         ensures obeys { IsTold self.old → Obeys (result ≡ Listed.Failed) self.old self.new }
     {
         if self.begin() {
@@ -162,7 +162,7 @@ impl Folder for MemFolder {
         ensures call { IsTold self.old → Call (folder_view self.old) (folder_view self.new) (NoMove) }
         ensures opens { (folder_view self.new).opens ≡ closed (folder_view self.old).opens number.0 }
         ensures frame { FolderTurns (⊥) (folder_view self.old) (folder_view self.new) }
-        ensures plays { Plays self.old self.new }
+        ensures plays { PlaysScript self.old self.new }
     {
         let _fails = self.take_number();
         close_at(&mut self.opens, number);

@@ -4,7 +4,7 @@ ghost use Rattle.jl_text.specs.Paths.{is_part};
 ghost use Rattle.std.specs.List.{IsDistinct, list_any};
 ghost use Rattle.std.specs.Str.{bytes_eq};
 ghost use Rattle.jl_folder.specs.State.{is_folder_place};
-ghost use Rattle.jl_memory.specs.Children.{IsBelow, StandsIn};
+ghost use Rattle.jl_memory.specs.Children.{IsChild, StandsIn};
 ghost use Rattle.jl_folder.specs.declared.listing.Name.{Name};
 
 use crate::tables::{PlaceEntry, place_of};
@@ -15,8 +15,8 @@ use std::alloc::{AllocError, Global};
 // The last part of a path that stands below the other.
 fn child_part<'a>(child: &'a Path, path: &Path) -> Option<&'a Text>
     ensures part { IfSome result (λ part. IsTrue (is_part part.now)) }
-    ensures below { IfSome result (λ part. IsBelow child.now path.now part.now) }
-    ensures apart { IfNone result ((part : List ℕ) → IsBelow child.now path.now part → ⊥) }
+    ensures below { IfSome result (λ part. IsChild child.now path.now part.now) }
+    ensures apart { IfNone result ((part : List ℕ) → IsChild child.now path.now part → ⊥) }
 {
     let (part, parents) = child.parts().split_last()?;
     if part.as_str().is_empty() {

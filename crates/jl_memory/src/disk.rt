@@ -132,11 +132,11 @@ fn nodes_of(alloc: Global, start: &[Node]) -> Result<Vec<NodeEntry>, AllocError>
 }
 
 impl Disk {
-    ghost use Rattle.jl_memory.specs.Disk.{disk_state, IsSound, LetMoves};
+    ghost use Rattle.jl_memory.specs.Disk.{disk_state, IsConsistent, LetMoves};
 
     pub fn new(alloc: Global, start: Tree) -> Result<Disk, AllocError>
         requires { IsState (state_of start) }
-        ensures sound { IfOk result IsSound }
+        ensures sound { IfOk result IsConsistent }
         ensures start { IfOk result (λ d. d.start ≡ start) }
         ensures trace { IfOk result (λ d. d.trace.items ≡ []) }
         ensures unmade { IfOk result (λ d. d.unmade ≡ 0) }
@@ -154,14 +154,14 @@ impl Disk {
     }
 
     pub fn place(&self, parts: &[Text]) -> Option<Place>
-        ensures { IsSound self.now → result ≡ place_at (disk_state self.now) parts.now }
+        ensures { IsConsistent self.now → result ≡ place_at (disk_state self.now) parts.now }
     {
         place_of(&self.places, parts)
     }
 
     pub fn file_at(&self, parts: &[Text]) -> Option<u64>
-        ensures some { IfSome result (λ n. IsSound self.now → place_at (disk_state self.now) parts.now ≡ Some (Place.File n)) }
-        ensures none { IfNone result (IsSound self.now → is_file (disk_state self.now) parts.now ≡ false) }
+        ensures some { IfSome result (λ n. IsConsistent self.now → place_at (disk_state self.now) parts.now ≡ Some (Place.File n)) }
+        ensures none { IfNone result (IsConsistent self.now → is_file (disk_state self.now) parts.now ≡ false) }
     {
         match self.place(parts) {
             Some(Place::File(n)) => Some(n),
@@ -171,7 +171,7 @@ impl Disk {
     }
 
     pub fn is_folder(&self, parts: &[Text]) -> bool
-        ensures { IsSound self.now → result ≡ is_folder (disk_state self.now) parts.now }
+        ensures { IsConsistent self.now → result ≡ is_folder (disk_state self.now) parts.now }
     {
         match self.place(parts) {
             Some(Place::Folder) => true,
@@ -180,7 +180,7 @@ impl Disk {
     }
 
     pub fn is_file(&self, parts: &[Text]) -> bool
-        ensures { IsSound self.now → result ≡ is_file (disk_state self.now) parts.now }
+        ensures { IsConsistent self.now → result ≡ is_file (disk_state self.now) parts.now }
     {
         match self.place(parts) {
             Some(Place::File(_)) => true,
@@ -189,7 +189,7 @@ impl Disk {
     }
 
     pub fn has_parent(&self, path: &Path) -> bool
-        ensures { IsSound self.now → result ≡ has_parent (disk_state self.now) path.now }
+        ensures { IsConsistent self.now → result ≡ has_parent (disk_state self.now) path.now }
     {
         if path.is_fixed() {
             return false;
@@ -198,8 +198,8 @@ impl Disk {
     }
 
     fn allows_rename(&self, from: &Path, to: &Path) -> bool
-        ensures yes { result ≡ true → IsSound self.now → Allowed (disk_state self.now) (Move.Rename from.now to.now) }
-        ensures no { result ≡ false → IsSound self.now → Allowed (disk_state self.now) (Move.Rename from.now to.now) → ⊥ }
+        ensures yes { result ≡ true → IsConsistent self.now → Allowed (disk_state self.now) (Move.Rename from.now to.now) }
+        ensures no { result ≡ false → IsConsistent self.now → Allowed (disk_state self.now) (Move.Rename from.now to.now) → ⊥ }
     {
         if *from == *to {
             return false;
@@ -217,8 +217,8 @@ impl Disk {
     }
 
     fn allows_remove_dir(&self, path: &Path) -> bool
-        ensures yes { result ≡ true → IsSound self.now → Allowed (disk_state self.now) (Move.RemoveDir path.now) }
-        ensures no { result ≡ false → IsSound self.now → Allowed (disk_state self.now) (Move.RemoveDir path.now) → ⊥ }
+        ensures yes { result ≡ true → IsConsistent self.now → Allowed (disk_state self.now) (Move.RemoveDir path.now) }
+        ensures no { result ≡ false → IsConsistent self.now → Allowed (disk_state self.now) (Move.RemoveDir path.now) → ⊥ }
     {
         if !self.is_folder(path.parts()) {
             return false;
@@ -234,8 +234,8 @@ impl Disk {
 
     /// Whether the move may be made.
     pub fn allows(&self, change: &Move) -> bool
-        ensures yes { result ≡ true → IsSound self.now → Allowed (disk_state self.now) change.now }
-        ensures no { result ≡ false → IsSound self.now → Allowed (disk_state self.now) change.now → ⊥ }
+        ensures yes { result ≡ true → IsConsistent self.now → Allowed (disk_state self.now) change.now }
+        ensures no { result ≡ false → IsConsistent self.now → Allowed (disk_state self.now) change.now → ⊥ }
     {
         match change {
             Move::MakeDir(path) => self.place(path.parts()).is_none() && self.has_parent(path),
@@ -253,8 +253,8 @@ impl Disk {
 
     /// Makes a move that is allowed, or leaves all as it is.
     pub fn make(&mut self, token: Token, change: Move) -> Result<(), AllocError>
-        ensures ok { OnOk result (IsSound self.old → Allowed (disk_state self.old) change → IsSound self.new) }
-        ensures err { OnErr result (IsSound self.old → IsSound self.new) }
+        ensures ok { OnOk result (IsConsistent self.old → Allowed (disk_state self.old) change → IsConsistent self.new) }
+        ensures err { OnErr result (IsConsistent self.old → IsConsistent self.new) }
         ensures made { OnOk result (self.new.trace.items ≡ self.old.trace.items ++ (token, change) ∷ []) }
         ensures kept { OnErr result (self.new.trace.items ≡ self.old.trace.items) }
         ensures start { self.new.start ≡ self.old.start }
@@ -276,8 +276,8 @@ impl Disk {
 
     /// Makes a move if it may be made, and counts it where there is no memory for it.
     pub fn let_move(&mut self, token: Token, change: Move)
-        ensures sound { IsSound self.old → IsSound self.new }
-        ensures moved { IsSound self.old → LetMoves self.old self.new ((token, change) ∷ []) }
+        ensures sound { IsConsistent self.old → IsConsistent self.new }
+        ensures moved { IsConsistent self.old → LetMoves self.old self.new ((token, change) ∷ []) }
         ensures start { self.new.start ≡ self.old.start }
     {
         if !self.allows(&change) {
@@ -291,8 +291,8 @@ impl Disk {
 
     /// Makes those of the moves that may be made, one after another.
     pub fn let_moves(&mut self, moves: Vec<(Token, Move)>)
-        ensures sound { IsSound self.old → IsSound self.new }
-        ensures moved { IsSound self.old → LetMoves self.old self.new moves.items }
+        ensures sound { IsConsistent self.old → IsConsistent self.new }
+        ensures moved { IsConsistent self.old → LetMoves self.old self.new moves.items }
         ensures start { self.new.start ≡ self.old.start }
     {
         for (token, change) in moves {

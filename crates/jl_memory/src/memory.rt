@@ -8,7 +8,7 @@ ghost use Rattle.jl_folder.specs.Calls.{AppendsBytes, IsMade};
 ghost use Rattle.jl_memory.specs.Tables.{state_of};
 ghost use Rattle.jl_memory.specs.Memory.{mem_state, mem_history, IsTold};
 ghost use Rattle.jl_memory.specs.Scripts.{named_in, own_count, is_failing, is_cut, fails, torn_of, CutsAppend};
-ghost use Rattle.jl_memory.specs.Steps.{LetsOthers, Begins, Acts, Makes, Stays, Adds};
+ghost use Rattle.jl_memory.specs.Steps.{LetsOthers, Begins, Acts, MakesMove, Stays, AddsToNode};
 
 use crate::disk::Disk;
 use crate::opens::file_of;
@@ -230,7 +230,7 @@ impl MemFolder {
     // Adds a piece to the file of this number. Says whether there was memory.
     pub(crate) fn add_piece(&mut self, number: FileNo, piece: &[u8]) -> bool
         requires { IsMade (opens_of self.old.opens.items) number.0 }
-        ensures added { result ≡ true → Adds number.0 piece.now self.old self.new }
+        ensures added { result ≡ true → AddsToNode number.0 piece.now self.old self.new }
         ensures none { result ≡ false → Stays self.old self.new }
     {
         let Some(file) = file_of(self.opens.as_slice(), number) else {
@@ -266,7 +266,7 @@ impl MemFolder {
 
     // Makes a move of its own.
     pub(crate) fn make(&mut self, change: Move) -> Result<(), AllocError>
-        ensures made { OnOk result (Makes change self.old self.new) }
+        ensures made { OnOk result (MakesMove change self.old self.new) }
         ensures kept { OnErr result (Stays self.old self.new) }
     {
         let token = self.token.copy()?;

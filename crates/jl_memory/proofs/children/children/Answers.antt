@@ -5,7 +5,7 @@ use Rattle.std.specs.Prelude.{IsTrue}
 use Rattle.jl_text.specs.Paths.{is_part}
 use Rattle.jl_folder.specs.declared.listing.Name.{Name}
 use Rattle.jl_memory.specs.Tables.{found}
-use Rattle.jl_memory.specs.Children.{IsBelow}
+use Rattle.jl_memory.specs.Children.{IsChild}
 use Rattle.jl_memory.proofs.ChildLemmas.{ChildrenSoFar-none, ChildrenSoFar-kept, ChildrenSoFar-more, held_already, part_same, untold}
 use Rattle.jl_memory.proofs.children.children.Goals as goal
 use Rattle.jl_memory.proofs.children.children.Goals.{in-Some+then-not-has_name+in-Some-place_of+in_ok-part+in_ok-push, in-Some+then-not-has_name+in_default-place_of, in-Some+else-not-has_name, in_default}
@@ -23,7 +23,7 @@ loop-entry-preserved c =
       | in-Some+then-not-has_name+in-Some-place_of+in_ok-part+in_ok-push w ↦
           let n : Name = record { part = w.in_ok-part.part; folder = w.is_folder-folder.result } in
           let part_is : n.part ≡ w.in-Some.part.now = w.in_ok-part.ensures in
-          let below : IsBelow x.0 path n.part = subst (IsBelow x.0 path) (sym part_is) w.in-Some.ensures.below in
+          let below : IsChild x.0 path n.part = subst (IsChild x.0 path) (sym part_is) w.in-Some.ensures.below in
           let told : found places (path ++ n.part ∷ []) ≡ Some w.in-Some-place_of.place =
           ap (found places) (sym below.path) ∙ ap (found places) (sym w.parts.ensures.same) ∙ sym w.place_of.ensures ∙ w.in-Some-place_of.is in
           let fresh : list_any (λ m. bytes_eq n.part m.part) before ≡ false =

@@ -2,7 +2,7 @@ use Rattle.std.proofs.Common.{◌≡◌, inl, inr, refl, sym, ◌∙◌, subst, 
 use Rattle.jl_folder.specs.OpenTable.{opens_of}
 use Rattle.jl_folder.specs.Calls.{AppendsBytes, AppendsSome, IsMade}
 use Rattle.jl_folder.specs.declared.folder.Appended.TheVariants as appended
-use Rattle.jl_memory.specs.Scripts.{WritesAll}
+use Rattle.jl_memory.specs.Scripts.{AppendsAll}
 use Rattle.jl_memory.specs.Steps.{Acts}
 use Rattle.jl_memory.proofs.CallLemmas.{call_begun, call_acted, answers_begun, answers_acted, plays_begun, plays_acted, obeys_failing, obeys_torn, obeys_added}
 use Rattle.jl_memory.proofs.calls.MemFolderFolder.append.Goals as goal
@@ -41,7 +41,7 @@ pub returns-then-is_stopped-clause-some : goal.returns-then-is_stopped-clause-so
 returns-then-is_stopped-clause-some c = elim c.tear.ensures.some [ inl failed ↦ subst (AppendsSome (length c.args.bytes.now)) (sym failed) tt | inr none ↦ subst (AppendsSome (length c.args.bytes.now)) (sym none) tt ]
 
 pub returns-then-is_stopped-clause-whole : goal.returns-then-is_stopped-clause-whole
-returns-then-is_stopped-clause-whole c = elim c.tear.ensures.some [ inl failed ↦ subst (WritesAll (length c.args.bytes.now)) (sym failed) tt | inr none ↦ subst (WritesAll (length c.args.bytes.now)) (sym none) tt ]
+returns-then-is_stopped-clause-whole c = elim c.tear.ensures.some [ inl failed ↦ subst (AppendsAll (length c.args.bytes.now)) (sym failed) tt | inr none ↦ subst (AppendsAll (length c.args.bytes.now)) (sym none) tt ]
 
 pub returns-clause-call : goal.returns-clause-call
 returns-clause-call c = λ t. call_acted c.args.self.now c.start_append.new.self c.add_bytes.new.self c.start_append.result _ _ c.start_append.ensures.begins t (subst (λ files. Acts (c.add_bytes.result ≡ appended.Failed) (AppendsBytes c.args.number.0 c.args.bytes.now (opens_of files) c.add_bytes.result) c.start_append.new.self c.add_bytes.new.self) c.start_append.ensures.begins.opens c.add_bytes.ensures.acts)
