@@ -6,8 +6,8 @@ use Rattle.clap.specs.Kinds.{or_else}
 use Rattle.clap.specs.Takes.{is_given}
 use Rattle.clap.specs.Faults.{walk_fault, entered_fault, settle_fault, defaults_fault, check_fault, built_fault}
 use Rattle.clap.specs.Simple.{entered, names_of}
-use Rattle.jl_words.specs.Reading.{Text, Reading, fresh, value_among, walk}
-use Rattle.jl_words.specs.Parsing.{plain_id, plain_values, app_with, is_known, IsFree}
+use Rattle.jl_words.specs.Reading.{Text, WordsRead, nothing_read, value_among, with_words}
+use Rattle.jl_words.specs.Parsing.{plain_id, plain_values, app_with, has_option, IsFree}
 use Rattle.jl_words.proofs.ParsedRules.{words_arg, option_arg, rules, shape, built_is, no_one}
 use Rattle.jl_words.proofs.ParsedWords.{single, Agrees, Settles, at, resting}
 use Rattle.jl_words.proofs.ParsedSteps.{Good, good, StandsAt, Stands}
@@ -49,16 +49,16 @@ level names k end = or_else k (or_else (entered_fault (record { top = shape name
 empty_agrees : (names : List Text) → Agrees names [] [] []
 empty_agrees names = record { options = λ n k. refl; words = refl }
 
-begins : (names : List Text) → Stands names fresh (at false (resting false) nothing_held)
+begins : (names : List Text) → Stands names nothing_read (at false (resting false) nothing_held)
 begins names = (false, nothing_held, record { agrees = empty_agrees names; fault = refl }, refl)
 
 -- what clap makes of the words: no fault, and the same values
-pub record Parsed (names : List Text) (words : List Text) (end : Reading) : Type 0 where
+pub record Parsed (names : List Text) (words : List Text) (end : WordsRead) : Type 0 where
   pub fault : fault_of (app_with names) words ≡ []
-  pub options : (n : Text) → is_known n names ≡ true → all_of n (matches_of (app_with names) words) ≡ option_map single (value_among end.given n)
+  pub options : (n : Text) → has_option n names ≡ true → all_of n (matches_of (app_with names) words) ≡ option_map single (value_among end.given n)
   pub plain : all_of plain_id (matches_of (app_with names) words) ≡ plain_values end.plain
 
-stops : (names : List Text) (words : List Text) (end : Reading) (b : Bool) → Good names (at false (resting false) nothing_held) words end → StandsAt names end None b (fold (walked (rules names) []) (at false (resting false) nothing_held) words) → Parsed names words end
+stops : (names : List Text) (words : List Text) (end : WordsRead) (b : Bool) → Good names (at false (resting false) nothing_held) words end → StandsAt names end None b (fold (walked (rules names) []) (at false (resting false) nothing_held) words) → Parsed names words end
 stops names words end b g s =
     let last : Walk = fold (walked (rules names) []) (at false (resting false) nothing_held) words in
     let settles : Settles names end.given end.plain s.1 = s.2 in
@@ -74,7 +74,7 @@ stops names words end b g s =
       plain = ap (all_of plain_id) read ∙ settles.agrees.words;
     }
 
-pub parsed : (names : List Text) (words : List Text) (end : Reading) → IsFree names → walk names fresh words ≡ Some end → end.waiting ≡ None → Parsed names words end
+pub parsed : (names : List Text) (words : List Text) (end : WordsRead) → IsFree names → with_words names nothing_read words ≡ Some end → end.waiting ≡ None → Parsed names words end
 parsed names words end free e none =
-    let g = good names fresh end (at false (resting false) nothing_held) words free (begins names) e in
+    let g = good names nothing_read end (at false (resting false) nothing_held) words free (begins names) e in
     stops names words end end.is_closed g (subst (λ o. StandsAt names end o end.is_closed (fold (walked (rules names) []) (at false (resting false) nothing_held) words)) none g.stands)

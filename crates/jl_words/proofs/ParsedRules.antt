@@ -9,7 +9,7 @@ use Rattle.clap.specs.Walk.{arg_by_id, arg_by_long, is_early_multiple}
 use Rattle.clap.specs.Simple.{built, filled, filled_from, with_index, is_buildable, is_in_order, is_ready, is_ready_leaf}
 use Rattle.clap.specs.Faults.{is_free_app}
 use Rattle.jl_words.specs.Reading.{Text}
-use Rattle.jl_words.specs.Parsing.{plain_id, plain_rule, option_rule, app_with, is_known, IsFree, with_rules}
+use Rattle.jl_words.specs.Parsing.{plain_id, plain_rule, option_rule, app_with, has_option, IsFree, with_rules}
 use Rattle.jl_words.proofs.ParsedRows.{same_text, true≢false'}
 
 abbrev pub words_arg : Rule
@@ -32,32 +32,32 @@ shape names = record ((built (app_with names)).top) { rules = rules names }
 pub built_is : (names : List Text) → built (app_with names) ≡ record { top = shape names; subs = [] }
 built_is names = ap (λ (l : List Rule). record { top = record ((built (app_with names)).top) { rules = words_arg ∷ l }; subs = [] }) (options_filled names)
 
-pub by_long : (names : List Text) (n : Text) → is_known n names ≡ true → arg_by_long (rules names) n ≡ Some (option_arg n)
+pub by_long : (names : List Text) (n : Text) → has_option n names ≡ true → arg_by_long (rules names) n ≡ Some (option_arg n)
 by_long [] n h = absurd (true≢false' (sym h))
 by_long (m ∷ ns) n h = by (bytes_eq m n) refl (by_long ns n)
   where
-    by : (b : Bool) → bytes_eq m n ≡ b → (is_known n ns ≡ true → arg_by_long (rules ns) n ≡ Some (option_arg n)) → arg_by_long (rules (m ∷ ns)) n ≡ Some (option_arg n)
+    by : (b : Bool) → bytes_eq m n ≡ b → (has_option n ns ≡ true → arg_by_long (rules ns) n ≡ Some (option_arg n)) → arg_by_long (rules (m ∷ ns)) n ≡ Some (option_arg n)
     by true e again = rw e (ap (λ q. Some (option_arg q)) (same_text m n e))
-    by false e again = rw e (again (sym (ap (λ b. b || is_known n ns) e) ∙ h))
+    by false e again = rw e (again (sym (ap (λ b. b || has_option n ns) e) ∙ h))
 
-pub not_plain : (names : List Text) (n : Text) → IsFree names → is_known n names ≡ true → bytes_eq plain_id n ≡ false
+pub not_plain : (names : List Text) (n : Text) → IsFree names → has_option n names ≡ true → bytes_eq plain_id n ≡ false
 not_plain [] n f h = absurd (true≢false' (sym h))
 not_plain (m ∷ ns) n f h = by (bytes_eq m n) (bytes_eq plain_id m) refl refl (not_plain ns n)
   where
-    by : (b c : Bool) → bytes_eq m n ≡ b → bytes_eq plain_id m ≡ c → (IsFree ns → is_known n ns ≡ true → bytes_eq plain_id n ≡ false) → bytes_eq plain_id n ≡ false
+    by : (b c : Bool) → bytes_eq m n ≡ b → bytes_eq plain_id m ≡ c → (IsFree ns → has_option n ns ≡ true → bytes_eq plain_id n ≡ false) → bytes_eq plain_id n ≡ false
     by b true e d again = absurd (true≢false' (sym (ap (λ c. c || list_any (λ q. bytes_eq plain_id q) ns) d) ∙ f))
     by true false e d again = ap (bytes_eq plain_id) (sym (same_text m n e)) ∙ d
-    by false false e d again = again (sym (ap (λ c. c || list_any (λ q. bytes_eq plain_id q) ns) d) ∙ f) (sym (ap (λ b. b || is_known n ns) e) ∙ h)
+    by false false e d again = again (sym (ap (λ c. c || list_any (λ q. bytes_eq plain_id q) ns) d) ∙ f) (sym (ap (λ b. b || has_option n ns) e) ∙ h)
 
-found_by_id : (names : List Text) (n : Text) → is_known n names ≡ true → find (λ a. bytes_eq a.id n) (map option_arg names) ≡ Some (option_arg n)
+found_by_id : (names : List Text) (n : Text) → has_option n names ≡ true → find (λ a. bytes_eq a.id n) (map option_arg names) ≡ Some (option_arg n)
 found_by_id [] n h = absurd (true≢false' (sym h))
 found_by_id (m ∷ ns) n h = by (bytes_eq m n) refl (found_by_id ns n)
   where
-    by : (b : Bool) → bytes_eq m n ≡ b → (is_known n ns ≡ true → find (λ a. bytes_eq a.id n) (map option_arg ns) ≡ Some (option_arg n)) → find (λ a. bytes_eq a.id n) (map option_arg (m ∷ ns)) ≡ Some (option_arg n)
+    by : (b : Bool) → bytes_eq m n ≡ b → (has_option n ns ≡ true → find (λ a. bytes_eq a.id n) (map option_arg ns) ≡ Some (option_arg n)) → find (λ a. bytes_eq a.id n) (map option_arg (m ∷ ns)) ≡ Some (option_arg n)
     by true e again = rw e (ap (λ q. Some (option_arg q)) (same_text m n e))
-    by false e again = rw e (again (sym (ap (λ b. b || is_known n ns) e) ∙ h))
+    by false e again = rw e (again (sym (ap (λ b. b || has_option n ns) e) ∙ h))
 
-pub by_id : (names : List Text) (n : Text) → IsFree names → is_known n names ≡ true → arg_by_id (rules names) n ≡ Some (option_arg n)
+pub by_id : (names : List Text) (n : Text) → IsFree names → has_option n names ≡ true → arg_by_id (rules names) n ≡ Some (option_arg n)
 by_id names n f h = ap (λ b. cond b (Some words_arg) (find (λ a. bytes_eq a.id n) (map option_arg names))) (not_plain names n f h) ∙ found_by_id names n h
 
 -- ---- the command is one of which clap's definitions tell the parse

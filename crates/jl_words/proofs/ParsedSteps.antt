@@ -9,8 +9,8 @@ use Rattle.clap.specs.Lexer.{long_of, short_of}
 use Rattle.clap.specs.Walk.{Walk, Held, option, walked, settled, reacted, pushed}
 use Rattle.clap.specs.Kinds.{or_else}
 use Rattle.clap.specs.Faults.{walk_fault, turn_fault, use_fault}
-use Rattle.jl_words.specs.Reading.{Text, Use, Reading, is_flag, is_dashes, spelled, name_and_value, is_given, value_among, with_use, with_plain, with_option, option_met, word_met, value_met, step_at, step, walk}
-use Rattle.jl_words.specs.Parsing.{plain_id, is_known, IsFree}
+use Rattle.jl_words.specs.Reading.{Text, Use, WordsRead, is_flag, is_dashes, spelled, name_and_value, is_given, value_among, with_use, with_plain, with_option, option_met, word_met, value_met, with_word_at, with_word, with_words}
+use Rattle.jl_words.specs.Parsing.{plain_id, has_option, IsFree}
 use Rattle.jl_words.proofs.ParsedRows.{true≢false'}
 use Rattle.jl_words.proofs.ParsedRules.{option_arg, rules, shape, by_long, by_id}
 use Rattle.jl_words.proofs.ParsedWords.{Agrees, Settles, at, resting, held_with, absent, and-false, option_fault, plain_settles, whole_settles, value_settles, trailing_step, trailing_turn, plain_step, plain_turn, dashes_step, dashes_turn, whole_step, whole_turn, bare_step, bare_turn, value_step, value_turn}
@@ -66,18 +66,18 @@ long_word (x ∷ y ∷ r) n v d e = by (45 == x) (45 == y) refl refl r d e
 
 -- ---- where the two walks stand between two words
 
-abbrev pub StandsAt : List Text → Reading → Option Text → Bool → Walk → Type 0
+abbrev pub StandsAt : List Text → WordsRead → Option Text → Bool → Walk → Type 0
 StandsAt names r None b w = (q : Bool) × (h : Held) × Settles names r.given r.plain h × (w ≡ at b (resting q) h)
-StandsAt names r (Some n) b w = (rows : List Row) × (skip : ℕ) × Agrees names r.given r.plain rows × (is_known n names ≡ true) × (value_among r.given n ≡ None) × (b ≡ false) × (w ≡ at false (option n) (held_with rows skip n []))
+StandsAt names r (Some n) b w = (rows : List Row) × (skip : ℕ) × Agrees names r.given r.plain rows × (has_option n names ≡ true) × (value_among r.given n ≡ None) × (b ≡ false) × (w ≡ at false (option n) (held_with rows skip n []))
 
-abbrev pub Stands : List Text → Reading → Walk → Type 0
+abbrev pub Stands : List Text → WordsRead → Walk → Type 0
 Stands names r w = StandsAt names r r.waiting r.is_closed w
 
 -- clap refuses nothing at the word, and stands right after it
-abbrev Moves : List Text → Reading → Walk → Text → Type 0
+abbrev Moves : List Text → WordsRead → Walk → Text → Type 0
 Moves names r w word = (turn_fault (shape names) [] w word ≡ []) × Stands names r (walked (rules names) [] w word)
 
-stand : (names : List Text) (r : Reading) (o : Option Text) (b : Bool) (w : Walk) → r.waiting ≡ o → r.is_closed ≡ b → StandsAt names r o b w → Stands names r w
+stand : (names : List Text) (r : WordsRead) (o : Option Text) (b : Bool) (w : Walk) → r.waiting ≡ o → r.is_closed ≡ b → StandsAt names r o b w → Stands names r w
 stand names r o b w e f s = subst (λ c. StandsAt names r r.waiting c w) (sym f) (subst (λ p. StandsAt names r p b w) (sym e) s)
 
 given_value : (us : List Use) (n : Text) → is_given n us ≡ is_some (value_among us n)
@@ -95,7 +95,7 @@ not_given us n h = by (value_among us n) refl
     by None e = e
     by (Some v) e = absurd (true≢false' (sym (ap is_some e) ∙ sym (given_value us n) ∙ h))
 
-value_moves : (names : List Text) (r r' : Reading) (w : Walk) (word n : Text) → IsFree names → r.is_closed ≡ false → StandsAt names r (Some n) false w → value_met n r word ≡ Some r' → Moves names r' w word
+value_moves : (names : List Text) (r r' : WordsRead) (w : Walk) (word n : Text) → IsFree names → r.is_closed ≡ false → StandsAt names r (Some n) false w → value_met n r word ≡ Some r' → Moves names r' w word
 value_moves names r r' w word n free unshut s e = by (is_flag word) refl
   where
     by : (b : Bool) → is_flag word ≡ b → Moves names r' w word
@@ -112,7 +112,7 @@ value_moves names r r' w word n free unshut s e = by (is_flag word) refl
         ) in
         subst (λ q. Moves names q w word) same (subst (λ q. Moves names (with_use n word r) q word) (sym s.6) moved)
 
-plain_moves : (names : List Text) (r : Reading) (q : Bool) (h : Held) (word : Text) → IsFree names → r.waiting ≡ None → r.is_closed ≡ false → Settles names r.given r.plain h → is_flag word ≡ false → Moves names (with_plain word r) (at false (resting q) h) word
+plain_moves : (names : List Text) (r : WordsRead) (q : Bool) (h : Held) (word : Text) → IsFree names → r.waiting ≡ None → r.is_closed ≡ false → Settles names r.given r.plain h → is_flag word ≡ false → Moves names (with_plain word r) (at false (resting q) h) word
 plain_moves names r q h word free none unshut s f =
     let p = plain_word word f in (
       plain_turn names q h word p.dashes p.long p.short ∙ s.fault,
@@ -120,21 +120,21 @@ plain_moves names r q h word free none unshut s f =
           (true, pushed plain_id word (settled (rules names) h), plain_settles names r.given r.plain h word free s, plain_step names q h word p.dashes p.long p.short),
     )
 
-closed_moves : (names : List Text) (r : Reading) (q : Bool) (h : Held) (word : Text) → IsFree names → r.waiting ≡ None → r.is_closed ≡ true → Settles names r.given r.plain h → Moves names (with_plain word r) (at true (resting q) h) word
+closed_moves : (names : List Text) (r : WordsRead) (q : Bool) (h : Held) (word : Text) → IsFree names → r.waiting ≡ None → r.is_closed ≡ true → Settles names r.given r.plain h → Moves names (with_plain word r) (at true (resting q) h) word
 closed_moves names r q h word free none shut s = (
   trailing_turn names q h word ∙ s.fault,
   stand names (with_plain word r) None true (walked (rules names) [] (at true (resting q) h) word) none shut
       (true, pushed plain_id word (settled (rules names) h), plain_settles names r.given r.plain h word free s, trailing_step names q h word),
 )
 
-dashes_moves : (names : List Text) (r : Reading) (q : Bool) (h : Held) (word : Text) → r.waiting ≡ None → Settles names r.given r.plain h → is_dashes word ≡ true → Moves names (record r { is_closed = true }) (at false (resting q) h) word
+dashes_moves : (names : List Text) (r : WordsRead) (q : Bool) (h : Held) (word : Text) → r.waiting ≡ None → Settles names r.given r.plain h → is_dashes word ≡ true → Moves names (record r { is_closed = true }) (at false (resting q) h) word
 dashes_moves names r q h word none s d = (
   dashes_turn names q h word d,
   stand names (record r { is_closed = true }) None true (walked (rules names) [] (at false (resting q) h) word) none refl
       (q, h, s, dashes_step names q h word d),
 )
 
-option_moves : (names : List Text) (r : Reading) (q : Bool) (h : Held) (word n : Text) (v : Option Text) → IsFree names → r.waiting ≡ None → r.is_closed ≡ false → Settles names r.given r.plain h → is_dashes word ≡ false → long_of word ≡ Some (n, v) → is_known n names ≡ true → value_among r.given n ≡ None
+option_moves : (names : List Text) (r : WordsRead) (q : Bool) (h : Held) (word n : Text) (v : Option Text) → IsFree names → r.waiting ≡ None → r.is_closed ≡ false → Settles names r.given r.plain h → is_dashes word ≡ false → long_of word ≡ Some (n, v) → has_option n names ≡ true → value_among r.given n ≡ None
     → Moves names (with_option (n, v) r) (at false (resting q) h) word
 option_moves names r q h word n (Some v) free none unshut s d l k new = (
   whole_turn names q h word n v d l (by_long names n k)
@@ -149,24 +149,24 @@ option_moves names r q h word n None free none unshut s d l k new = (
       ((settled (rules names) h).rows, (settled (rules names) h).skip, s.agrees, k, new, refl, bare_step names q h word n d l (by_long names n k)),
 )
 
-met_moves : (names : List Text) (r r' : Reading) (q : Bool) (h : Held) (word n : Text) (v : Option Text) → IsFree names → r.waiting ≡ None → r.is_closed ≡ false → Settles names r.given r.plain h → is_dashes word ≡ false → spelled word ≡ Some (n, v) → option_met names r (n, v) ≡ Some r'
+met_moves : (names : List Text) (r r' : WordsRead) (q : Bool) (h : Held) (word n : Text) (v : Option Text) → IsFree names → r.waiting ≡ None → r.is_closed ≡ false → Settles names r.given r.plain h → is_dashes word ≡ false → spelled word ≡ Some (n, v) → option_met names r (n, v) ≡ Some r'
     → Moves names r' (at false (resting q) h) word
-met_moves names r r' q h word n v free none unshut s d sp e = by (is_known n names) (is_given n r.given) refl refl
+met_moves names r r' q h word n v free none unshut s d sp e = by (has_option n names) (is_given n r.given) refl refl
   where
-    chosen : Bool → Bool → Option Reading
+    chosen : Bool → Bool → Option WordsRead
     chosen a b = cond (a && not b) (Some (with_option (n, v) r)) None
 
-    by : (a b : Bool) → is_known n names ≡ a → is_given n r.given ≡ b → Moves names r' (at false (resting q) h) word
+    by : (a b : Bool) → has_option n names ≡ a → is_given n r.given ≡ b → Moves names r' (at false (resting q) h) word
     by false b f g = absurd (none-some r' (sym (ap (λ a. cond (a && not (is_given n r.given)) (Some (with_option (n, v) r)) None) f) ∙ e))
     by true true f g = absurd (none-some r' (sym (ap (λ a. cond (a && not (is_given n r.given)) (Some (with_option (n, v) r)) None) f ∙ ap (λ b. cond (true && not b) (Some (with_option (n, v) r)) None) g) ∙ e))
     by true false f g =
         let same : with_option (n, v) r ≡ r' = same_Some (with_option (n, v) r) r' (sym (ap (λ a. cond (a && not (is_given n r.given)) (Some (with_option (n, v) r)) None) f ∙ ap (λ b. cond (true && not b) (Some (with_option (n, v) r)) None) g) ∙ e) in
         subst (λ p. Moves names p (at false (resting q) h) word) same (option_moves names r q h word n v free none unshut s d (long_word word n v d sp) f (not_given r.given n g))
 
-word_moves : (names : List Text) (r r' : Reading) (q : Bool) (h : Held) (word : Text) → IsFree names → r.waiting ≡ None → r.is_closed ≡ false → Settles names r.given r.plain h → word_met names r word ≡ Some r' → Moves names r' (at false (resting q) h) word
+word_moves : (names : List Text) (r r' : WordsRead) (q : Bool) (h : Held) (word : Text) → IsFree names → r.waiting ≡ None → r.is_closed ≡ false → Settles names r.given r.plain h → word_met names r word ≡ Some r' → Moves names r' (at false (resting q) h) word
 word_moves names r r' q h word free none unshut s e = by (is_dashes word) (is_flag word) refl refl
   where
-    flagged : Bool → Option Reading
+    flagged : Bool → Option WordsRead
     flagged b = cond b (option_and_then (option_met names r) (spelled word)) (Some (with_plain word r))
 
     by : (a b : Bool) → is_dashes word ≡ a → is_flag word ≡ b → Moves names r' (at false (resting q) h) word
@@ -182,7 +182,7 @@ word_moves names r r' q h word free none unshut s e = by (is_dashes word) (is_fl
         ∙ ap (λ b. cond b (option_and_then (option_met names r) (spelled word)) (Some (with_plain word r))) f) ∙ e in
         option_and_then_some (option_met names r) (spelled word) r' taken (λ o sp m. met_moves names r r' q h word o.0 o.1 free none unshut s d sp m)
 
-step_moves : (names : List Text) (r r' : Reading) (w : Walk) (word : Text) (o : Option Text) (b : Bool) → IsFree names → r.waiting ≡ o → r.is_closed ≡ b → StandsAt names r o b w → step_at o b names r word ≡ Some r' → Moves names r' w word
+step_moves : (names : List Text) (r r' : WordsRead) (w : Walk) (word : Text) (o : Option Text) (b : Bool) → IsFree names → r.waiting ≡ o → r.is_closed ≡ b → StandsAt names r o b w → with_word_at o b names r word ≡ Some r' → Moves names r' w word
 step_moves names r r' w word (Some n) b free e f s m =
     value_moves names r r' w word n free (f ∙ s.5) (s.0, s.1, s.2, s.3, s.4, refl, s.6) m
 step_moves names r r' w word None true free e f s m =
@@ -193,7 +193,7 @@ step_moves names r r' w word None false free e f s m =
 
 -- ---- over all the words
 
-pub record Good (names : List Text) (w : Walk) (words : List Text) (end : Reading) : Type 0 where
+pub record Good (names : List Text) (w : Walk) (words : List Text) (end : WordsRead) : Type 0 where
   pub fault : walk_fault (shape names) [] w words ≡ []
   pub stands : Stands names end (fold (walked (rules names) []) w words)
 
@@ -205,10 +205,10 @@ fault_nil : (s : Shape) (w : Walk) → walk_fault s [] w [] ≡ []
 unfolding walk_fault
 fault_nil s w = refl
 
-pub good : (names : List Text) (r end : Reading) (w : Walk) (words : List Text) → IsFree names → Stands names r w → walk names r words ≡ Some end → Good names w words end
+pub good : (names : List Text) (r end : WordsRead) (w : Walk) (words : List Text) → IsFree names → Stands names r w → with_words names r words ≡ Some end → Good names w words end
 good names r end w [] free s e = record { fault = fault_nil (shape names) w; stands = subst (λ q. Stands names q w) (same_Some r end e) s }
 good names r end w (x ∷ xs) free s e =
-    option_and_then_some (λ t. walk names t xs) (step names r x) end e (λ t met rest.
+    option_and_then_some (λ t. with_words names t xs) (with_word names r x) end e (λ t met rest.
     let moved = step_moves names r t w x r.waiting r.is_closed free refl refl s met in
     let after = good names t end (walked (rules names) [] w x) xs free moved.1 rest in
     record {

@@ -10,7 +10,7 @@ use Rattle.clap.specs.Kinds.{or_else}
 use Rattle.clap.specs.Faults.{turn_fault, react_fault, use_fault, settle_fault}
 use Rattle.clap.specs.declared.parser.matches.ValueSource.TheVariants.{CommandLine}
 use Rattle.jl_words.specs.Reading.{Text, Use, is_dashes, value_among}
-use Rattle.jl_words.specs.Parsing.{plain_id, plain_values, is_known, IsFree}
+use Rattle.jl_words.specs.Parsing.{plain_id, plain_values, has_option, IsFree}
 use Rattle.jl_words.proofs.ParsedRows.{or_else_some, has-all, at_row-new, all-append, all-more, all-others, same_text, itself, true≢false'}
 use Rattle.jl_words.proofs.ParsedRules.{words_arg, option_arg, rules, shape, by_id, not_plain}
 
@@ -20,7 +20,7 @@ abbrev pub single : Text → List Text
 single v = v ∷ []
 
 pub record Agrees (names : List Text) (given : List Use) (plain : List Text) (rows : List Row) : Type 0 where
-  pub options : (n : Text) → is_known n names ≡ true → all_of n rows ≡ option_map single (value_among given n)
+  pub options : (n : Text) → has_option n names ≡ true → all_of n rows ≡ option_map single (value_among given n)
   pub words : all_of plain_id rows ≡ plain_values plain
 
 abbrev pub use_of : Text → Text → Use
@@ -32,7 +32,7 @@ row n v = record { id = n; values = v ∷ []; count = None; source = Some Comman
 abbrev pub word_row : Text → Row
 word_row w = record { id = plain_id; values = w ∷ []; count = None; source = Some CommandLine; reading = reading_by words_arg }
 
-pub absent : (names : List Text) (given : List Use) (plain : List Text) (rows : List Row) (n : Text) → Agrees names given plain rows → is_known n names ≡ true → value_among given n ≡ None → has_row n rows ≡ false
+pub absent : (names : List Text) (given : List Use) (plain : List Text) (rows : List Row) (n : Text) → Agrees names given plain rows → has_option n names ≡ true → value_among given n ≡ None → has_row n rows ≡ false
 absent names given plain rows n a k new = has-all n rows ∙ ap is_some (a.options n k ∙ ap (option_map single) new)
 
 used_is : (rows : List Row) (n v : Text) → has_row n rows ≡ false → used (option_arg n) (v ∷ []) rows ≡ rows ++ row n v ∷ []
@@ -65,7 +65,7 @@ differ a b d = by (bytes_eq b a) refl
     by true e = absurd (true≢false' (sym (itself a) ∙ ap (bytes_eq a) (sym (same_text b a e)) ∙ d))
     by false e = e
 
-option_used : (names : List Text) (given : List Use) (plain : List Text) (rows : List Row) (n v : Text) → IsFree names → Agrees names given plain rows → is_known n names ≡ true → value_among given n ≡ None
+option_used : (names : List Text) (given : List Use) (plain : List Text) (rows : List Row) (n v : Text) → IsFree names → Agrees names given plain rows → has_option n names ≡ true → value_among given n ≡ None
     → Agrees names (given ++ use_of n v ∷ []) plain (used (option_arg n) (v ∷ []) rows)
 option_used names given plain rows n v free a k new =
     let is : used (option_arg n) (v ∷ []) rows ≡ rows ++ row n v ∷ [] = used_is rows n v (absent names given plain rows n a k new) in
@@ -120,7 +120,7 @@ plain_settles names given plain h w free s = record {
   fault = plain_fault (settled (rules names) h).rows w;
 }
 
-pub whole_settles : (names : List Text) (given : List Use) (plain : List Text) (h : Held) (n v : Text) → IsFree names → Settles names given plain h → is_known n names ≡ true → value_among given n ≡ None
+pub whole_settles : (names : List Text) (given : List Use) (plain : List Text) (h : Held) (n v : Text) → IsFree names → Settles names given plain h → has_option n names ≡ true → value_among given n ≡ None
     → Settles names (given ++ use_of n v ∷ []) plain (reacted (rules names) (option_arg n) (v ∷ []) h)
 whole_settles names given plain h n v free s k new = record {
   agrees = option_used names given plain (settled (rules names) h).rows n v free s.agrees k new;
@@ -130,7 +130,7 @@ whole_settles names given plain h n v free s k new = record {
 abbrev pub held_with : List Row → ℕ → Text → List Text → Held
 held_with rows skip n vs = record { rows = rows; pending = Some (n, vs); skip = skip }
 
-pub value_settles : (names : List Text) (given : List Use) (plain : List Text) (rows : List Row) (skip : ℕ) (n v : Text) → IsFree names → Agrees names given plain rows → is_known n names ≡ true → value_among given n ≡ None
+pub value_settles : (names : List Text) (given : List Use) (plain : List Text) (rows : List Row) (skip : ℕ) (n v : Text) → IsFree names → Agrees names given plain rows → has_option n names ≡ true → value_among given n ≡ None
     → Settles names (given ++ use_of n v ∷ []) plain (held_with rows skip n (v ∷ []))
 value_settles names given plain rows skip n v free a k new =
     let arg : arg_by_id (rules names) n ≡ Some (option_arg n) = by_id names n free k in

@@ -4,9 +4,9 @@ use Rattle.std.specs.Option.{option_and_then}
 use Rattle.std.proofs.lemmas.Option.{none-some, same_Some}
 use Rattle.jl_text.specs.Paths.{PathView}
 use Rattle.jl_words.specs.ModuleNames.{module_name_of, name_of}
-use Rattle.jl_words.specs.Reading.{Text, Said, said_of}
-use Rattle.jl_words.specs.Values.{required, optional, path_in, with_module_name, module_in, count_up_to, key_in}
-use Rattle.jl_words.specs.Commands.{call_with, call_of, hash_of, places_of, jobs_given, forms_of, clear_with, clear_of, limits_of, set_alone_by, without_plain, set_by, command_of, options_of}
+use Rattle.jl_words.specs.Reading.{Text, Said, said_by_words}
+use Rattle.jl_words.specs.Values.{required, optional, path_in, with_module_name, module_in, count_up_to, entry_key_in}
+use Rattle.jl_words.specs.Commands.{call_with, call_of, hash_of, places_of, jobs_given, forms_of, clear_with, clear_settings, limits_of, set_alone_by, without_plain, set_by, command_by_word, options_of}
 use Rattle.jl_words.specs.Settings.{settings_of, module_path}
 use Rattle.jl_words.specs.declared.types.Settings.{Settings}
 use Rattle.jl_words.specs.declared.types.Settings.TheVariants as set
@@ -72,9 +72,9 @@ clear_named l [] = some_named (set.Clear l None None None) (no_module (set.Clear
 clear_named l (m ∷ []) = map_named (λ m'. set.Clear l (Some m') None None) (name_of m) (λ m' _. no_module (set.Clear l (Some m') None None) refl)
 clear_named l (m ∷ f ∷ []) = then_named (λ m'. option_map (λ f'. set.Clear l (Some m') (Some f') None) (name_of f)) (name_of m) (λ m' _.
     map_named (λ f'. set.Clear l (Some m') (Some f') None) (name_of f) (λ f' _. no_module (set.Clear l (Some m') (Some f') None) refl))
-clear_named l (m ∷ f ∷ k ∷ []) = then_named (λ m'. option_and_then (λ f'. option_map (λ k'. set.Clear l (Some m') (Some f') (Some k')) (key_in k)) (name_of f)) (name_of m) (λ m' _.
-    then_named (λ f'. option_map (λ k'. set.Clear l (Some m') (Some f') (Some k')) (key_in k)) (name_of f) (λ f' _.
-    map_named (λ k'. set.Clear l (Some m') (Some f') (Some k')) (key_in k) (λ k' _. no_module (set.Clear l (Some m') (Some f') (Some k')) refl)))
+clear_named l (m ∷ f ∷ k ∷ []) = then_named (λ m'. option_and_then (λ f'. option_map (λ k'. set.Clear l (Some m') (Some f') (Some k')) (entry_key_in k)) (name_of f)) (name_of m) (λ m' _.
+    then_named (λ f'. option_map (λ k'. set.Clear l (Some m') (Some f') (Some k')) (entry_key_in k)) (name_of f) (λ f' _.
+    map_named (λ k'. set.Clear l (Some m') (Some f') (Some k')) (entry_key_in k) (λ k' _. no_module (set.Clear l (Some m') (Some f') (Some k')) refl)))
 clear_named l (m ∷ f ∷ k ∷ x ∷ ws) = none_named
 
 places_module : (s : Said) (p : PathView × Option PathView × PathView) → places_of s ≡ Some p → is_some (module_name_of p.0) ≡ true
@@ -130,12 +130,12 @@ command_named Gen cpus s = without_named s.plain (set_alone_by Gen cpus s) (alon
 
 pub all_named : (words : List Text) (cpus : ℕ) → AllNamed (settings_of words cpus)
 all_named [] cpus = none_named
-all_named (word ∷ words) cpus = then_named (λ c. option_and_then (set_by c cpus) (said_of (options_of c) words)) (command_of word) (λ c _.
-    then_named (set_by c cpus) (said_of (options_of c) words) (λ s _. command_named c cpus s))
+all_named (word ∷ words) cpus = then_named (λ c. option_and_then (set_by c cpus) (said_by_words (options_of c) words)) (command_by_word word) (λ c _.
+    then_named (set_by c cpus) (said_by_words (options_of c) words) (λ s _. command_named c cpus s))
 
 -- where the paths of a call are read, its plain words decide
 pub call_is : (s : Said) (m l : PathView) → required module_in (s.value (codes "module")) ≡ Some m → required path_in (s.value (codes "location")) ≡ Some l → call_of s ≡ call_with m l s.plain
 call_is s m l e f = ap (option_and_then (λ m'. option_and_then (λ l'. call_with m' l' s.plain) (required path_in (s.value (codes "location"))))) e ∙ ap (option_and_then (λ l'. call_with m l' s.plain)) f
 
-pub clear_is : (s : Said) (l : PathView) → required path_in (s.value (codes "location")) ≡ Some l → clear_of s ≡ clear_with l s.plain
+pub clear_is : (s : Said) (l : PathView) → required path_in (s.value (codes "location")) ≡ Some l → clear_settings s ≡ clear_with l s.plain
 clear_is s l f = ap (option_and_then (λ l'. clear_with l' s.plain)) f

@@ -5,9 +5,9 @@ use Rattle.std.proofs.lemmas.Option.{none-some, same_Some}
 use Rattle.jl_text.specs.Paths.{PathView}
 use Rattle.jl_text.specs.Texts.{is_name}
 use Rattle.jl_words.specs.ModuleNames.{name_of}
-use Rattle.jl_words.specs.Reading.{Text, Said, said_of}
-use Rattle.jl_words.specs.Values.{required, optional, path_in, module_in, count_up_to, key_in}
-use Rattle.jl_words.specs.Commands.{call_with, hash_of, places_of, jobs_given, forms_of, clear_with, limits_of, set_alone_by, without_plain, set_by, command_of, options_of}
+use Rattle.jl_words.specs.Reading.{Text, Said, said_by_words}
+use Rattle.jl_words.specs.Values.{required, optional, path_in, module_in, count_up_to, entry_key_in}
+use Rattle.jl_words.specs.Commands.{call_with, hash_of, places_of, jobs_given, forms_of, clear_with, limits_of, set_alone_by, without_plain, set_by, command_by_word, options_of}
 use Rattle.jl_words.specs.Settings.{settings_of}
 use Rattle.jl_words.specs.declared.types.Settings.{Settings}
 use Rattle.jl_words.specs.declared.types.Settings.TheVariants as set
@@ -46,9 +46,9 @@ clear_all l [] = some_all (set.Clear l None None None) tt
 clear_all l (m ∷ []) = map_all (λ m'. set.Clear l (Some m') None None) (name_of m) (λ m' e. named m m' e)
 clear_all l (m ∷ f ∷ []) = then_all (λ m'. option_map (λ f'. set.Clear l (Some m') (Some f') None) (name_of f)) (name_of m) (λ m' e.
     map_all (λ f'. set.Clear l (Some m') (Some f') None) (name_of f) (λ f' e'. (named m m' e, named f f' e')))
-clear_all l (m ∷ f ∷ k ∷ []) = then_all (λ m'. option_and_then (λ f'. option_map (λ k'. set.Clear l (Some m') (Some f') (Some k')) (key_in k)) (name_of f)) (name_of m) (λ m' e.
-    then_all (λ f'. option_map (λ k'. set.Clear l (Some m') (Some f') (Some k')) (key_in k)) (name_of f) (λ f' e'.
-    map_all (λ k'. set.Clear l (Some m') (Some f') (Some k')) (key_in k) (λ k' _. (named m m' e, named f f' e'))))
+clear_all l (m ∷ f ∷ k ∷ []) = then_all (λ m'. option_and_then (λ f'. option_map (λ k'. set.Clear l (Some m') (Some f') (Some k')) (entry_key_in k)) (name_of f)) (name_of m) (λ m' e.
+    then_all (λ f'. option_map (λ k'. set.Clear l (Some m') (Some f') (Some k')) (entry_key_in k)) (name_of f) (λ f' e'.
+    map_all (λ k'. set.Clear l (Some m') (Some f') (Some k')) (entry_key_in k) (λ k' _. (named m m' e, named f f' e'))))
 clear_all l (m ∷ f ∷ k ∷ x ∷ ws) = none_all
 
 call_all : (m l : PathView) (plain : List Text) → AllTargets (call_with m l plain)
@@ -98,5 +98,5 @@ command_all Gen cpus s = without_all s.plain (set_alone_by Gen cpus s) (alone_al
 
 pub all_targets : (words : List Text) (cpus : ℕ) → AllTargets (settings_of words cpus)
 all_targets [] cpus = none_all
-all_targets (word ∷ words) cpus = then_all (λ c. option_and_then (set_by c cpus) (said_of (options_of c) words)) (command_of word) (λ c _.
-    then_all (set_by c cpus) (said_of (options_of c) words) (λ s _. command_all c cpus s))
+all_targets (word ∷ words) cpus = then_all (λ c. option_and_then (set_by c cpus) (said_by_words (options_of c) words)) (command_by_word word) (λ c _.
+    then_all (set_by c cpus) (said_by_words (options_of c) words) (λ s _. command_all c cpus s))

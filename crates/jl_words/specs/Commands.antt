@@ -9,7 +9,7 @@ use Rattle.jl_quota.specs.Limits.{count_of, size_of, age_of}
 use Rattle.jl_quota.specs.declared.limits.Limits.{Limits}
 use Rattle.jl_words.specs.ModuleNames.{name_of}
 use Rattle.jl_words.specs.Reading.{Text, Said}
-use Rattle.jl_words.specs.Values.{required, optional, path_in, module_in, jobs_in, backend_in, batch_in, mode_in, most_bytes_in, count_up_to, key_in}
+use Rattle.jl_words.specs.Values.{required, optional, path_in, module_in, jobs_in, backend_in, batch_in, mode_in, most_bytes_in, count_up_to, entry_key_in}
 use Rattle.jl_words.specs.declared.types.Backend.{Backend}
 use Rattle.jl_words.specs.declared.types.Mode.{Mode}
 use Rattle.jl_words.specs.declared.types.Settings.{Settings}
@@ -18,27 +18,27 @@ use Rattle.jl_words.specs.declared.command.Command.{Command}
 use Rattle.jl_words.specs.declared.command.Command.TheVariants.{Call, Hash, Parallel, Session, Clear, ReduceSize, Worker, Tracker, Gen}
 
 -- the word of a command
-abbrev pub word_of : Command → Text
-word_of Call = codes "call"
-word_of Hash = codes "hash"
-word_of Parallel = codes "parallel"
-word_of Session = codes "session"
-word_of Clear = codes "clear"
-word_of ReduceSize = codes "reduce-size"
-word_of Worker = codes "worker"
-word_of Tracker = codes "tracker"
-word_of Gen = codes "gen"
+abbrev pub command_word : Command → Text
+command_word Call = codes "call"
+command_word Hash = codes "hash"
+command_word Parallel = codes "parallel"
+command_word Session = codes "session"
+command_word Clear = codes "clear"
+command_word ReduceSize = codes "reduce-size"
+command_word Worker = codes "worker"
+command_word Tracker = codes "tracker"
+command_word Gen = codes "gen"
 
 abbrev pub commands : List Command
 commands = Call ∷ Hash ∷ Parallel ∷ Session ∷ Clear ∷ ReduceSize ∷ Worker ∷ Tracker ∷ Gen ∷ []
 
 abbrev pub command_among : List Command → Text → Option Command
 command_among [] word = None
-command_among (c ∷ cs) word = cond (bytes_eq word (word_of c)) (Some c) (command_among cs word)
+command_among (c ∷ cs) word = cond (bytes_eq word (command_word c)) (Some c) (command_among cs word)
 
 -- the command of a word
-abbrev pub command_of : Text → Option Command
-command_of word = command_among commands word
+abbrev pub command_by_word : Text → Option Command
+command_by_word word = command_among commands word
 
 -- the options of a command
 abbrev pub options_of : Command → List Text
@@ -100,12 +100,12 @@ abbrev pub clear_with : PathView → List Text → Option Settings
 clear_with l [] = Some (set.Clear l None None None)
 clear_with l (m ∷ []) = option_map (λ m'. set.Clear l (Some m') None None) (name_of m)
 clear_with l (m ∷ f ∷ []) = option_and_then (λ m'. option_map (λ f'. set.Clear l (Some m') (Some f') None) (name_of f)) (name_of m)
-clear_with l (m ∷ f ∷ k ∷ []) = option_and_then (λ m'. option_and_then (λ f'. option_map (λ k'. set.Clear l (Some m') (Some f') (Some k')) (key_in k)) (name_of f)) (name_of m)
+clear_with l (m ∷ f ∷ k ∷ []) = option_and_then (λ m'. option_and_then (λ f'. option_map (λ k'. set.Clear l (Some m') (Some f') (Some k')) (entry_key_in k)) (name_of f)) (name_of m)
 clear_with l _ = None
 
 -- `clear --location DIR`, and then nothing, `MODULE`, `MODULE FUNC` or `MODULE FUNC KEY`
-abbrev pub clear_of : Said → Option Settings
-clear_of s = option_and_then (λ l. clear_with l s.plain) (required path_in (s.value (codes "location")))
+abbrev pub clear_settings : Said → Option Settings
+clear_settings s = option_and_then (λ l. clear_with l s.plain) (required path_in (s.value (codes "location")))
 
 abbrev pub limits_of : Said → Option Limits
 limits_of s = option_and_then (λ b. option_and_then (λ i. option_map (λ a. record { bytes = b; items = i; age = a }) (optional age_of (s.value (codes "age-limit"))))
@@ -141,5 +141,5 @@ without_plain (w ∷ ws) o = None
 abbrev pub set_by : Command → ℕ → Said → Option Settings
 set_by Call cpus s = call_of s
 set_by Hash cpus s = hash_of s.plain
-set_by Clear cpus s = clear_of s
+set_by Clear cpus s = clear_settings s
 set_by c cpus s = without_plain s.plain (set_alone_by c cpus s)

@@ -25,8 +25,8 @@ app_with names = record {
 }
 
 -- whether the command has an option of this name
-abbrev pub is_known : Text → List Text → Bool
-is_known name names = list_any (λ n. bytes_eq n name) names
+abbrev pub has_option : Text → List Text → Bool
+has_option name names = list_any (λ n. bytes_eq n name) names
 
 -- no option has the id of the plain words
 abbrev pub IsFree : List Text → Type 0
@@ -42,8 +42,8 @@ abbrev pub plain_found : ArgMatches → Option (List Text)
 plain_found m = option_map raw_values (matched_of (found_of m) plain_id)
 
 -- clap found what the words say
-pub record Finds (names : List Text) (m : ArgMatches) (s : Said) : Type 0 where
-  pub options : (n : Text) → is_known n names ≡ true → first_value (found_of m) n ≡ s.value n
+pub record FoundAsSaid (names : List Text) (m : ArgMatches) (s : Said) : Type 0 where
+  pub options : (n : Text) → has_option n names ≡ true → first_value (found_of m) n ≡ s.value n
   pub plain : plain_found m ≡ plain_values s.plain
 
 -- the use of an option that has a value
@@ -52,8 +52,8 @@ use_from name None = []
 use_from name (Some value) = record { name = name; value = value } ∷ []
 
 -- no other option has a value
-abbrev pub HasOnly : List Text → Said → Type 0
-HasOnly names s = (n : Text) → is_known n names ≡ false → s.value n ≡ None
+abbrev pub HasOnlyOptions : List Text → Said → Type 0
+HasOnlyOptions names s = (n : Text) → has_option n names ≡ false → s.value n ≡ None
 
 -- an App with these arguments behind its own
 unfoldable pub with_rules : App → List Rule → App

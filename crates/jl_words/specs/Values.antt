@@ -93,5 +93,5 @@ abbrev pub is_key_digit : ℕ → Bool
 is_key_digit b = (nat_le 48 b && nat_le b 57) || (nat_le 97 b && nat_le b 102)
 
 -- 32 lower-case hexadecimal digits, two for each byte of a key
-abbrev pub key_in : Text → Option Key
-key_in text = cond (list_all is_key_digit text) (option_map (λ bytes. record { 0 = bytes }) (result_ok (decode_sized text 16))) None
+abbrev pub entry_key_in : Text → Option Key
+entry_key_in text = cond (list_all is_key_digit text) (option_map (λ bytes. record { 0 = bytes }) (result_ok (decode_sized text 16))) None

@@ -1,7 +1,7 @@
 // Command line: the commands and their options.
 ghost use Rattle.std.specs.Prelude.{◌≡◌, [], ◌∷◌, map};
 ghost use Rattle.jl_words.specs.declared.command.Command.TheVariants.{ReduceSize, Worker, Tracker, Gen};
-ghost use Rattle.jl_words.specs.Commands.{command_of, command_among, options_of};
+ghost use Rattle.jl_words.specs.Commands.{command_by_word, command_among, options_of};
 
 /// What the first word asks for.
 #[derive(Clone, Copy, Drop)]
@@ -37,7 +37,7 @@ fn later_command(word: &str) -> Option<Command>
 
 /// The command of a word.
 pub(crate) fn find_command(word: &str) -> Option<Command>
-    ensures { result ≡ command_of word.now }
+    ensures { result ≡ command_by_word word.now }
 {
     if word == "call" {
         return Some(Command::Call);

@@ -4,7 +4,7 @@ ghost use Rattle.jl_quota.specs.Limits.{size_of, count_of, age_of};
 ghost use Rattle.jl_words.specs.Parts.{said_in};
 ghost use Rattle.jl_words.specs.ModuleNames.{name_of};
 ghost use Rattle.jl_words.specs.Values.{required, optional, count_up_to};
-ghost use Rattle.jl_words.specs.Commands.{call_with, call_of, hash_of, session_of, clear_with, clear_of, limits_of, reduce_of, gen_of};
+ghost use Rattle.jl_words.specs.Commands.{call_with, call_of, hash_of, session_of, clear_with, clear_settings, limits_of, reduce_of, gen_of};
 
 use crate::parts::Parts;
 use crate::types::{Settings, SettingsFault};
@@ -157,8 +157,8 @@ fn clear_with(alloc: Global, location: Path, plain: &[&str]) -> Result<Settings,
 }
 
 pub(crate) fn clear(alloc: Global, parts: &Parts<'_>) -> Result<Settings, SettingsFault>
-    ensures given { IfOk result (λ s. clear_of (said_in parts.now) ≡ Some s) }
-    ensures usage { result ≡ Err SettingsFault.Usage → clear_of (said_in parts.now) ≡ None }
+    ensures given { IfOk result (λ s. clear_settings (said_in parts.now) ≡ Some s) }
+    ensures usage { result ≡ Err SettingsFault.Usage → clear_settings (said_in parts.now) ≡ None }
 {
     let location = location(alloc, parts)?;
     clear_with(alloc, location, parts.plain.as_slice())

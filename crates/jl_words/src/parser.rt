@@ -4,8 +4,8 @@ ghost use Rattle.clap.specs.Words.{app_of, rule_of, kind_of, with_rule, first_va
 ghost use Rattle.clap.specs.declared.error.kind.ErrorKind.TheVariants as kind;
 ghost use Rattle.jl_words.specs.declared.types.SettingsFault.TheVariants.{Memory};
 ghost use Rattle.jl_words.specs.Parts.{uses_of, said_in};
-ghost use Rattle.jl_words.specs.Reading.{Said, said_of, value_among};
-ghost use Rattle.jl_words.specs.Parsing.{plain_rule, option_rule, app_with, is_known, IsFree, Finds, HasOnly, plain_found, use_from};
+ghost use Rattle.jl_words.specs.Reading.{Said, said_by_words, value_among};
+ghost use Rattle.jl_words.specs.Parsing.{plain_rule, option_rule, app_with, has_option, IsFree, FoundAsSaid, HasOnlyOptions, plain_found, use_from};
 
 use crate::parts::{Given, Parts};
 use crate::types::SettingsFault;
@@ -73,9 +73,9 @@ pub(crate) fn matches<'a>(
     words: &'a [String],
 ) -> Result<ArgMatches<'a>, SettingsFault>
     requires free { IsFree (map (λ n. n.now) names.now) }
-    ensures found { IfOk result (λ m. (s : Said) → said_of (map (λ n. n.now) names.entry.now)
-        (map string_bytes words.entry.now) ≡ Some s → Finds (map (λ n. n.now) names.entry.now) m s) }
-    ensures fault { IfErr result (λ e. (s : Said) → said_of (map (λ n. n.now) names.entry.now)
+    ensures found { IfOk result (λ m. (s : Said) → said_by_words (map (λ n. n.now) names.entry.now)
+        (map string_bytes words.entry.now) ≡ Some s → FoundAsSaid (map (λ n. n.now) names.entry.now) m s) }
+    ensures fault { IfErr result (λ e. (s : Said) → said_by_words (map (λ n. n.now) names.entry.now)
         (map string_bytes words.entry.now) ≡ Some s → e ≡ Memory) }
 {
     let command = match command(alloc, names) {
@@ -112,7 +112,7 @@ fn given<'a>(
     matches: &ArgMatches<'a>,
 ) -> Result<Vec<Given<'a>>, AllocError>
     ensures { IfOk result (λ v. (n : List ℕ) → value_among (uses_of v.items) n
-        ≡ cond (is_known n (map (λ m. m.now) names.now)) (first_value (found_of matches.now) n) None) }
+        ≡ cond (has_option n (map (λ m. m.now) names.now)) (first_value (found_of matches.now) n) None) }
 {
     let mut given = Vec::new(alloc);
     for name in names {
@@ -137,8 +137,8 @@ pub(crate) fn gathered<'a>(
     names: &[&'a str],
     matches: &ArgMatches<'a>,
 ) -> Result<Parts<'a>, AllocError>
-    ensures { IfOk result (λ p. (s : Said) → Finds (map (λ n. n.now) names.now) matches.now s
-        → HasOnly (map (λ n. n.now) names.now) s → said_in p ≡ s) }
+    ensures { IfOk result (λ p. (s : Said) → FoundAsSaid (map (λ n. n.now) names.now) matches.now s
+        → HasOnlyOptions (map (λ n. n.now) names.now) s → said_in p ≡ s) }
 {
     let given = given(alloc.clone()?, names, matches)?;
     let plain = plain(alloc, matches)?;

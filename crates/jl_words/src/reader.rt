@@ -3,7 +3,7 @@ ghost use Rattle.std.specs.Prelude.{◌≡◌, ◌∷◌, ◌&&◌, not, Some, N
 ghost use Rattle.std.specs.List.{list_any};
 ghost use Rattle.std.specs.Str.{bytes_eq};
 ghost use Rattle.jl_words.specs.Parts.{uses_of, said_in, spelled_in, reading_of};
-ghost use Rattle.jl_words.specs.Reading.{is_flag, is_dashes, is_given, name_and_value, body_of, spelled, fresh, with_use, with_option, with_plain, option_met, word_met, value_met, step, walk, ended, said_by, Said, said_of};
+ghost use Rattle.jl_words.specs.Reading.{is_flag, is_dashes, is_given, name_and_value, behind_dashes, spelled, nothing_read, with_use, with_option, with_plain, option_met, word_met, value_met, with_word, with_words, without_waiting, said_by, Said, said_by_words};
 ghost use Rattle.jl_words.specs.Parsing.{IsFree};
 
 use crate::parser::{gathered, matches};
@@ -33,7 +33,7 @@ fn is_flag(word: &str) -> bool
 }
 
 fn without_dashes(word: &str) -> Option<&str>
-    ensures { option_map (λ body. body.now) result ≡ body_of word.now }
+    ensures { option_map (λ body. body.now) result ≡ behind_dashes word.now }
 {
     word.strip_prefix("--")
 }
@@ -89,7 +89,7 @@ fn is_given(given: &[Given<'_>], name: &str) -> bool
 
 impl<'a> Reader<'a> {
     fn new(alloc: Global) -> Result<Reader<'a>, AllocError>
-        ensures { IfOk result (λ r. reading_of r ≡ fresh) }
+        ensures { IfOk result (λ r. reading_of r ≡ nothing_read) }
     {
         Ok(Reader {
             parts: Parts {
@@ -189,10 +189,10 @@ impl<'a> Reader<'a> {
     }
 
     fn step(&mut self, names: &[&str], word: &'a str) -> Result<(), SettingsFault>
-        ensures read { OnOk result (step (map (λ n. n.now) names.now) (reading_of self.old)
+        ensures read { OnOk result (with_word (map (λ n. n.now) names.now) (reading_of self.old)
             word.entry.now ≡ Some (reading_of self.new)) }
         ensures usage { result ≡ Err SettingsFault.Usage
-            → step (map (λ n. n.now) names.now) (reading_of self.old) word.entry.now ≡ None }
+            → with_word (map (λ n. n.now) names.now) (reading_of self.old) word.entry.now ≡ None }
     {
         if let Some(name) = self.waiting {
             return self.meet_value(name, word);
@@ -209,9 +209,9 @@ fn walked<'a>(
     names: &[&str],
     words: &'a [String],
 ) -> Result<Reader<'a>, SettingsFault>
-    ensures read { IfOk result (λ r. walk (map (λ n. n.now) names.now) fresh
+    ensures read { IfOk result (λ r. with_words (map (λ n. n.now) names.now) nothing_read
         (map string_bytes words.entry.now) ≡ Some (reading_of r)) }
-    ensures usage { result ≡ Err SettingsFault.Usage → walk (map (λ n. n.now) names.now) fresh
+    ensures usage { result ≡ Err SettingsFault.Usage → with_words (map (λ n. n.now) names.now) nothing_read
         (map string_bytes words.entry.now) ≡ None }
 {
     let mut reader = Reader::new(alloc)?;
@@ -225,10 +225,10 @@ fn walked<'a>(
 
 // Whether these are words of a command with options of these names.
 fn check(alloc: Global, names: &[&str], words: &[String]) -> Result<(), SettingsFault>
-    ensures taken { OnOk result (is_some (said_of (map (λ n. n.now) names.now)
+    ensures taken { OnOk result (is_some (said_by_words (map (λ n. n.now) names.now)
         (map string_bytes words.now)) ≡ true) }
     ensures usage { result ≡ Err SettingsFault.Usage
-        → said_of (map (λ n. n.now) names.now) (map string_bytes words.now) ≡ None }
+        → said_by_words (map (λ n. n.now) names.now) (map string_bytes words.now) ≡ None }
 {
     let reader = walked(alloc, names, words)?;
     match reader.waiting {
@@ -244,9 +244,9 @@ fn parsed<'a>(
     words: &'a [String],
 ) -> Result<Parts<'a>, SettingsFault>
     requires free { IsFree (map (λ n. n.now) names.now) }
-    ensures read { IfOk result (λ p. (s : Said) → said_of (map (λ n. n.now) names.entry.now)
+    ensures read { IfOk result (λ p. (s : Said) → said_by_words (map (λ n. n.now) names.entry.now)
         (map string_bytes words.entry.now) ≡ Some s → said_in p ≡ s) }
-    ensures fault { IfErr result (λ e. (s : Said) → said_of (map (λ n. n.now) names.entry.now)
+    ensures fault { IfErr result (λ e. (s : Said) → said_by_words (map (λ n. n.now) names.entry.now)
         (map string_bytes words.entry.now) ≡ Some s → e ≡ SettingsFault.Memory) }
 {
     let found = matches(alloc, names, words)?;
@@ -261,9 +261,9 @@ pub(crate) fn read<'a>(
     words: &'a [String],
 ) -> Result<Parts<'a>, SettingsFault>
     requires free { IsFree (map (λ n. n.now) names.now) }
-    ensures read { IfOk result (λ p. said_of (map (λ n. n.now) names.entry.now)
+    ensures read { IfOk result (λ p. said_by_words (map (λ n. n.now) names.entry.now)
         (map string_bytes words.entry.now) ≡ Some (said_in p)) }
-    ensures usage { result ≡ Err SettingsFault.Usage → said_of (map (λ n. n.now) names.entry.now)
+    ensures usage { result ≡ Err SettingsFault.Usage → said_by_words (map (λ n. n.now) names.entry.now)
         (map string_bytes words.entry.now) ≡ None }
 {
     check(alloc, names, words)?;

@@ -2,7 +2,7 @@
 ghost use Rattle.std.specs.Prelude.{◌≡◌, ◌<◌, ◌^◌, Some, None, Ok, Err, IfOk, IfSome, option_map, option_and_then, codes};
 ghost use Rattle.std.specs.List.{list_all};
 ghost use Rattle.jl_words.specs.Parts.{said_in};
-ghost use Rattle.jl_words.specs.Values.{required, optional, path_in, with_module_name, module_in, few_in, minus_body, number_in, jobs_for, jobs_in, backend_in, batch_in, fixed, mode_in, most_bytes_in, count_up_to, key_in, is_key_digit};
+ghost use Rattle.jl_words.specs.Values.{required, optional, path_in, with_module_name, module_in, few_in, minus_body, number_in, jobs_for, jobs_in, backend_in, batch_in, fixed, mode_in, most_bytes_in, count_up_to, entry_key_in, is_key_digit};
 
 use crate::module::module_name;
 use crate::parts::Parts;
@@ -186,7 +186,7 @@ fn are_key_digits(bytes: &[u8]) -> bool
 
 /// The key that 32 lower-case digits spell.
 pub(crate) fn key(text: &str) -> Option<Key>
-    ensures { result ≡ key_in text.now }
+    ensures { result ≡ entry_key_in text.now }
 {
     if !are_key_digits(text.as_bytes()) {
         return None;

@@ -1,7 +1,7 @@
 // Command line: its words as a whole.
 ghost use Rattle.std.specs.Prelude.{◌≡◌, ◌<◌, ◌≤◌, Some, None, Ok, Err, map, IfOk, string_bytes, option_and_then};
 ghost use Rattle.jl_words.specs.Parts.{said_in};
-ghost use Rattle.jl_words.specs.Reading.{said_of};
+ghost use Rattle.jl_words.specs.Reading.{said_by_words};
 ghost use Rattle.jl_words.specs.Commands.{set_alone_by, set_by, options_of};
 ghost use Rattle.jl_words.specs.Settings.{settings_of};
 
@@ -69,9 +69,9 @@ fn command_settings(
     cpus: u32,
 ) -> Result<Settings, SettingsFault>
     ensures given { IfOk result (λ s. option_and_then (set_by command cpus)
-        (said_of (options_of command) (map string_bytes words.now)) ≡ Some s) }
+        (said_by_words (options_of command) (map string_bytes words.now)) ≡ Some s) }
     ensures usage { result ≡ Err SettingsFault.Usage → option_and_then (set_by command cpus)
-        (said_of (options_of command) (map string_bytes words.now)) ≡ None }
+        (said_by_words (options_of command) (map string_bytes words.now)) ≡ None }
 {
     let names = options(command);
     let parts = read(alloc, names, words)?;
