@@ -15,7 +15,7 @@ use Rattle.jl_lexer.specs.declared.operators.Operator.{Operator}
 use Rattle.jl_lexer.specs.Signs.{is_digit}
 use Rattle.jl_lexer.specs.Words.{is_number, number_behind, has_leading_zero, true_word, false_word, none_word, if_text, quoted_in, text_in, named_constant, constant_of, key_in}
 use Rattle.jl_syntax.specs.Trees.{Expression, tall, leaf, bracketed, before, between, choice, index, call, span, list as listed, each, filtered, table as tabled, Members as Listing, no_members as none_listed, member as listing, Entries, no_entries, entry}
-use Rattle.jl_module.specs.Headings.{Reading, bad, good, definition_in}
+use Rattle.jl_module.specs.Headings.{LineReading, bad, good, definition_in}
 use Rattle.jl_builtins.specs.declared.left_side.Settled.{Settled}
 use Rattle.jl_builtins.specs.declared.left_side.Settled.TheVariants.{Known, Open, Wrong, Both}
 use Rattle.jl_builtins.specs.Steps.{Ran, done, failed}
@@ -151,7 +151,7 @@ called_if true b r h = tt
 called_if false true r h = tt
 called_if false false r h = h
 
-answered_within : (r : Reading) (ps : List (List ℕ × Tree)) → HasProper (members_of ps) → IsWithin (answered r ps)
+answered_within : (r : LineReading) (ps : List (List ℕ × Tree)) → HasProper (members_of ps) → IsWithin (answered r ps)
 answered_within (bad k) ps h = tt
 answered_within (good d) ps h = called_if (not (has_arguments d.parameters ps)) (not (has_parameters d.parameters ps)) _ (limited_within (value_of ps d.body 0) (value_proper ps d.body 0 (names_proper ps h)))
 

@@ -9,7 +9,7 @@ use Rattle.jl_value.specs.declared.library.TaskError.TheVariants.{NoArgument, Ex
 use Rattle.jl_lexer.specs.declared.operators.Operator.{Operator}
 use Rattle.jl_lexer.specs.Words.{constant_of, key_in}
 use Rattle.jl_syntax.specs.Trees.{Expression, tall, leaf, bracketed, before, between, choice, index, call, span, list as listed, each, filtered, table as tabled, Members, no_members, member, Entries, no_entries, entry}
-use Rattle.jl_module.specs.Headings.{Definition, Reading, bad, good, definition_in}
+use Rattle.jl_module.specs.Headings.{Definition, LineReading, bad, good, definition_in}
 use Rattle.jl_builtins.specs.declared.left_side.Settled.{Settled}
 use Rattle.jl_builtins.specs.declared.left_side.Settled.TheVariants.{Known, Open, Wrong, Both}
 use Rattle.jl_builtins.specs.Steps.{Ran, done, failed, then', counted, operated}
@@ -103,7 +103,7 @@ abbrev pub called : Definition → List (List ℕ × Tree) → Answer
 called d ps = if not (has_arguments d.parameters ps) then error NoArgument else (if not (has_parameters d.parameters ps) then error ExtraArgument else limited (value_of ps d.body 0))
 
 -- what a line answers on arguments
-abbrev pub answered : Reading → List (List ℕ × Tree) → Answer
+abbrev pub answered : LineReading → List (List ℕ × Tree) → Answer
 answered (bad k) ps = error BadKind
 answered (good d) ps = called d ps
 

@@ -12,8 +12,8 @@ use Rattle.jl_lexer.specs.Words.{def_word, is_identifier}
 use Rattle.jl_lexer.specs.Marks.{is_mark}
 use Rattle.jl_syntax.specs.Trees.{Expression, height}
 use Rattle.jl_syntax.specs.Machine.{Read, read, broken, nested_deep, read_signs}
-use Rattle.jl_module.specs.Headings.{Heading, Definition, Reading, bad, good, has_repeat, are_known, judged, with_body, with_heading, heading_of, heading_in, with_parameters, parameters_in, body_behind, definition_in}
-use Rattle.jl_module.specs.Modules.{lines, trimmed, is_remark, Line, remark, faulty, defines, line_of, broken_line, read_line, after_line, first_fault, fault_of, defines_in, begins_definition, Found, find_from, find, code_in, Defines}
+use Rattle.jl_module.specs.Headings.{Heading, Definition, LineReading, bad, good, has_repeat, are_known, judged, with_body, with_heading, heading_of, heading_in, with_parameters, parameters_in, body_behind, definition_in}
+use Rattle.jl_module.specs.Modules.{lines, trimmed, is_remark, Line, remark, faulty, defines, line_of, broken_line, read_line, fault_after_line, first_fault, fault_of, defines_in, begins_definition, Found, find_from, find, code_in, Defines}
 
 -- ---- the name of a heading
 
@@ -55,11 +55,11 @@ line_called n line e = called_if (begins_word line) n _ (heading_called n (signs
 
 -- ---- the name of a definition
 
-abbrev IsOf : List ℕ → Reading → Type 0
+abbrev IsOf : List ℕ → LineReading → Type 0
 IsOf n (bad k) = Unit {0}
 IsOf n (good d) = d.name ≡ n
 
-of_if : (b : Bool) (n : List ℕ) (k : ModuleFaultKind) (r : Reading) → IsOf n r → IsOf n (if b then bad k else r)
+of_if : (b : Bool) (n : List ℕ) (k : ModuleFaultKind) (r : LineReading) → IsOf n r → IsOf n (if b then bad k else r)
 of_if true n k r h = tt
 of_if false n k r h = h
 
@@ -86,12 +86,12 @@ IsSound remark = Unit {0}
 IsSound (faulty k) = ⊥
 IsSound (defines f) = Unit {0}
 
-sound_by : (k : Line) (n : ℕ) (names : List (List ℕ)) (rest : List (List ℕ) → Option ModuleFault) → after_line n names k rest ≡ None → IsSound k
+sound_by : (k : Line) (n : ℕ) (names : List (List ℕ)) (rest : List (List ℕ) → Option ModuleFault) → fault_after_line n names k rest ≡ None → IsSound k
 sound_by remark n names rest e = tt
 sound_by (faulty k) n names rest e = absurd (cc)
 sound_by (defines f) n names rest e = tt
 
-defines_by : (r : Reading) (code n : List ℕ) → definition_in code ≡ r → IsOf n r → IsSound (line_of r) → Defines code n
+defines_by : (r : LineReading) (code n : List ℕ) → definition_in code ≡ r → IsOf n r → IsSound (line_of r) → Defines code n
 defines_by (bad k) code n is of' sound = absurd sound
 defines_by (good d) code n is of' sound = record { definition = d; read = is; named = of' }
 
@@ -105,7 +105,7 @@ remark_not : (l : List ℕ) → begins_word l ≡ true → is_remark l ≡ false
 remark_not [] e = absurd (true≢false (sym e))
 remark_not (b ∷ bs) e = remark_by (nat_eq b 35) b refl e
 
-sound_line : (u r : Bool) (k : ModuleFaultKind) (p : Reading) → r ≡ false → IsSound (if u then (if r then remark else line_of p) else faulty k) → IsSound (line_of p)
+sound_line : (u r : Bool) (k : ModuleFaultKind) (p : LineReading) → r ≡ false → IsSound (if u then (if r then remark else line_of p) else faulty k) → IsSound (line_of p)
 sound_line true true k p e h = absurd (cc)
 sound_line true false k p e h = h
 sound_line false r k p e h = absurd h
@@ -132,7 +132,7 @@ none_by : (b : Bool) (o : Option ModuleFault) (f : ModuleFault) → (if b then S
 none_by true o f e = absurd (cc)
 none_by false o f e = e
 
-behind : (k : Line) (n : ℕ) (names : List (List ℕ)) (rest : List (List ℕ) → Option ModuleFault) → after_line n names k rest ≡ None → (more : List (List ℕ)) × (rest more ≡ None)
+behind : (k : Line) (n : ℕ) (names : List (List ℕ)) (rest : List (List ℕ) → Option ModuleFault) → fault_after_line n names k rest ≡ None → (more : List (List ℕ)) × (rest more ≡ None)
 behind remark n names rest e = (names, e)
 behind (faulty k) n names rest e = absurd (cc)
 behind (defines f) n names rest e = (names ++ f ∷ [], none_by (list_any (bytes_eq f) names) _ _ e)

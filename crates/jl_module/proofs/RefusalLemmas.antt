@@ -6,13 +6,13 @@ use Rattle.jl_syntax.specs.Trees.{Expression, height}
 use Rattle.jl_syntax.specs.Machine.{Read, read, broken, nested_deep, read_signs}
 use Rattle.jl_syntax.proofs.Soundness.{sound}
 use Rattle.jl_syntax.proofs.OpenBrackets.{deepens, breaks}
-use Rattle.jl_module.specs.Headings.{Heading, Reading, bad, good, has_repeat, are_known, with_body, with_heading, heading_of, definition_in}
+use Rattle.jl_module.specs.Headings.{Heading, LineReading, bad, good, has_repeat, are_known, with_body, with_heading, heading_of, definition_in}
 use Rattle.jl_module.specs.Refusals.{IsTooDeep, opens, is_high, IsDeepLine, IsBadLine, headless, breaks_off}
 
 lt_of : (a b : ℕ) → nat_lt a b ≡ true → a < b
 lt_of a b h = grind arith
 
-abbrev judged_by : Bool → Bool → Heading → Expression → Reading
+abbrev judged_by : Bool → Bool → Heading → Expression → LineReading
 judged_by b c h e = if b then bad TooDeep else (if c then bad BadName else good (record { name = h.name; parameters = h.parameters; body = e }))
 
 high_by : (b c : Bool) (h : Heading) (e : Expression) → judged_by b c h e ≡ bad TooDeep → b ≡ true

@@ -91,25 +91,25 @@ pub record Definition : Type 0 where
   pub body : Expression
 
 -- a line that was read as a definition
-pub data Reading : Type 0 where
-  bad : ModuleFaultKind → Reading
-  good : Definition → Reading
+pub data LineReading : Type 0 where
+  bad : ModuleFaultKind → LineReading
+  good : Definition → LineReading
 
 -- a tree may be 128 high, no parameter stands twice, and each name is a parameter
-abbrev pub judged : Heading → Expression → Reading
+abbrev pub judged : Heading → Expression → LineReading
 judged h e = if nat_lt 128 (height e) then bad TooDeep else (if has_repeat [] h.parameters || not (are_known h.parameters e) then bad BadName else good (record { name = h.name; parameters = h.parameters; body = e }))
 
 -- a heading and what was read of its expression
-abbrev pub with_body : Heading → Read → Reading
+abbrev pub with_body : Heading → Read → LineReading
 with_body h broken = bad BadLine
 with_body h nested_deep = bad TooDeep
 with_body h (read e) = judged h e
 
 -- a heading, where there is one, and its expression
-abbrev pub with_heading : Option Heading → Reading
+abbrev pub with_heading : Option Heading → LineReading
 with_heading None = bad BadLine
 with_heading (Some h) = with_body h (read_signs h.body)
 
 -- the definition that a line is, or its first fault
-abbrev pub definition_in : List ℕ → Reading
+abbrev pub definition_in : List ℕ → LineReading
 definition_in line = with_heading (heading_of line)

@@ -10,15 +10,15 @@ use Rattle.jl_lexer.specs.Signs.{signs}
 use Rattle.jl_module.specs.declared.reader.Definition.{Definition as Read}
 use Rattle.jl_syntax.specs.Trees.{Expression, height}
 use Rattle.jl_syntax.specs.Machine.{read, read_signs}
-use Rattle.jl_module.specs.Headings.{with_body, Heading, Definition, Reading, bad, good, more_parameters, heading_in, with_parameters, parameters_in}
+use Rattle.jl_module.specs.Headings.{with_body, Heading, Definition, LineReading, bad, good, more_parameters, heading_in, with_parameters, parameters_in}
 
 -- a bad line, where nothing was read
-abbrev pub IsMissing : {A : Type 0} → LineFault → Option A → Type 0
-IsMissing (Faulty k) o = (k ≡ BadLine) × (o ≡ None)
-IsMissing Memory o = ⊤
+abbrev pub IsReadingFault : {A : Type 0} → LineFault → Option A → Type 0
+IsReadingFault (Faulty k) o = (k ≡ BadLine) × (o ≡ None)
+IsReadingFault Memory o = ⊤
 
 -- the fault of a line
-abbrev pub IsFault : LineFault → Reading → Type 0
+abbrev pub IsFault : LineFault → LineReading → Type 0
 IsFault (Faulty k) r = r ≡ bad k
 IsFault Memory r = ⊤
 
@@ -33,8 +33,8 @@ abbrev pub IsNameless : List (List ℕ) → Type 0
 IsNameless ws = heading_in ws ≡ None
 
 -- `def`, a name and an opening bracket before the rest
-abbrev pub IsNamed : List ℕ → List (List ℕ) → List (List ℕ) → Type 0
-IsNamed n ws rest = heading_in ws ≡ with_parameters n (parameters_in rest)
+abbrev pub HasHeadingName : List ℕ → List (List ℕ) → List (List ℕ) → Type 0
+HasHeadingName n ws rest = heading_in ws ≡ with_parameters n (parameters_in rest)
 
 -- what was read of a heading
 abbrev pub heading_read : Head → Heading
@@ -45,7 +45,7 @@ abbrev pub definition_read : Read → Definition
 definition_read d = record { name = d.name.now; parameters = d.parameters; body = d.body }
 
 -- the definition that a line is
-abbrev pub IsDefinition : Read → Reading → Type 0
+abbrev pub IsDefinition : Read → LineReading → Type 0
 IsDefinition d r = r ≡ good (definition_read d)
 
 -- the tree of an expression, which is no higher than 128

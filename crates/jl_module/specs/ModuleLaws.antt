@@ -12,7 +12,7 @@ use Rattle.jl_value.specs.declared.library.ModuleFault.{ModuleFault}
 use Rattle.jl_value.specs.declared.library.ModuleFaultKind.{ModuleFaultKind}
 use Rattle.jl_value.specs.Lines.{is_line, IsLine}
 use Rattle.jl_lexer.specs.Words.{is_identifier}
-use Rattle.jl_module.specs.Modules.{lines, trimmed, before_end, is_trailing, Line, remark, faulty, defines, read_line, after_line, first_fault, fault_of, begins_definition, Found, find_from, find, code_in, line_in}
+use Rattle.jl_module.specs.Modules.{lines, trimmed, before_end, is_trailing, Line, remark, faulty, defines, read_line, fault_after_line, first_fault, fault_of, begins_definition, Found, find_from, find, code_in, line_in}
 
 -- ---- names
 
@@ -161,7 +161,7 @@ abbrev AreTexts : List (List ℕ) → Type 0
 AreTexts [] = Unit {0}
 AreTexts (l ∷ ls) = IsUtf8 l × AreTexts ls
 
-text_by : (b : Bool) (k : Line) (f : ModuleFaultKind) (n : ℕ) (names : List (List ℕ)) (rest : List (List ℕ) → Option ModuleFault) → after_line n names (if b then k else faulty f) rest ≡ None → b ≡ true
+text_by : (b : Bool) (k : Line) (f : ModuleFaultKind) (n : ℕ) (names : List (List ℕ)) (rest : List (List ℕ) → Option ModuleFault) → fault_after_line n names (if b then k else faulty f) rest ≡ None → b ≡ true
 text_by true k f n names rest e = refl
 text_by false k f n names rest e = absurd (cc)
 
@@ -169,7 +169,7 @@ twice_by : (b : Bool) (o p : Option ModuleFault) (f : ModuleFault) → o ≡ Som
 twice_by true o p f same e = absurd (cc)
 twice_by false o p f same e = e
 
-rest_by : (k : Line) (n : ℕ) (names : List (List ℕ)) (rest : List (List ℕ) → Option ModuleFault) → after_line n names k rest ≡ None → (more : List (List ℕ)) × (rest more ≡ None)
+rest_by : (k : Line) (n : ℕ) (names : List (List ℕ)) (rest : List (List ℕ) → Option ModuleFault) → fault_after_line n names k rest ≡ None → (more : List (List ℕ)) × (rest more ≡ None)
 rest_by remark n names rest e = (names, e)
 rest_by (faulty k) n names rest e = absurd (cc)
 rest_by (defines f) n names rest e = (names ++ f ∷ [], twice_by (list_any (bytes_eq f) names) _ _ _ refl e)

@@ -8,7 +8,7 @@ use Rattle.jl_value.specs.declared.library.ModuleFaultKind.{ModuleFaultKind}
 use Rattle.jl_value.specs.declared.library.ModuleFaultKind.TheVariants.{BadLine, Twice, TooDeep, TooLarge}
 use Rattle.jl_lexer.specs.Signs.{is_gap, signs, begins_word}
 use Rattle.jl_lexer.specs.Words.{def_word, is_identifier}
-use Rattle.jl_module.specs.Headings.{Definition, Reading, bad, good, definition_in}
+use Rattle.jl_module.specs.Headings.{Definition, LineReading, bad, good, definition_in}
 
 -- the lines, between newlines
 abbrev pub lines : List ℕ → List (List ℕ)
@@ -40,7 +40,7 @@ pub data Line : Type 0 where
   defines : List ℕ → Line
 
 -- the line that a reading is
-abbrev pub line_of : Reading → Line
+abbrev pub line_of : LineReading → Line
 line_of (bad k) = faulty k
 line_of (good d) = defines d.name
 
@@ -50,7 +50,7 @@ broken_kind TooDeep = TooDeep
 broken_kind _ = BadLine
 
 -- what is wrong with a line that is not UTF-8
-abbrev pub broken_line : Reading → ModuleFaultKind
+abbrev pub broken_line : LineReading → ModuleFaultKind
 broken_line (bad k) = broken_kind k
 broken_line (good d) = BadLine
 
@@ -59,15 +59,15 @@ abbrev pub read_line : List ℕ → Line
 read_line l = if is_utf8 l then (if is_remark (trimmed l) then remark else line_of (definition_in (trimmed l))) else faulty (broken_line (definition_in (trimmed l)))
 
 -- the first fault of a line and those behind it
-abbrev pub after_line : ℕ → List (List ℕ) → Line → (List (List ℕ) → Option ModuleFault) → Option ModuleFault
-after_line n names remark rest = rest names
-after_line n names (faulty k) rest = Some (record { line = n; kind = k })
-after_line n names (defines f) rest = if list_any (bytes_eq f) names then Some (record { line = n; kind = Twice }) else rest (names ++ f ∷ [])
+abbrev pub fault_after_line : ℕ → List (List ℕ) → Line → (List (List ℕ) → Option ModuleFault) → Option ModuleFault
+fault_after_line n names remark rest = rest names
+fault_after_line n names (faulty k) rest = Some (record { line = n; kind = k })
+fault_after_line n names (defines f) rest = if list_any (bytes_eq f) names then Some (record { line = n; kind = Twice }) else rest (names ++ f ∷ [])
 
 -- the first fault of the lines from this number on, behind the definitions of these names
 abbrev pub first_fault : ℕ → List (List ℕ) → List (List ℕ) → Option ModuleFault
 first_fault n names [] = None
-first_fault n names (l ∷ ls) = after_line n names (read_line l) (λ more. first_fault (n + 1) more ls)
+first_fault n names (l ∷ ls) = fault_after_line n names (read_line l) (λ more. first_fault (n + 1) more ls)
 
 -- why a text is no module
 abbrev pub fault_of : List ℕ → Option ModuleFault

@@ -4,7 +4,7 @@ ghost use Rattle.std.specs.Str.{is_utf8};
 ghost use Rattle.jl_module.specs.Modules.{lines, is_trailing as is_trailing_of, trimmed as trimmed_of, is_remark as is_remark_of, read_line as read_line_of, faulty, broken_kind as broken_kind_of, broken_line as broken_line_of, first_fault, fault_of, defines_in as defines_in_of, begins_definition, find as find_of, find_from};
 ghost use Rattle.jl_lexer.specs.Signs.{signs};
 ghost use Rattle.jl_module.specs.Headings.{definition_in};
-ghost use Rattle.jl_module.specs.Checks.{line_with, IsFaulty, IsChecked};
+ghost use Rattle.jl_module.specs.Checks.{line_with, IsFaultOf, IsChecked};
 
 use crate::fault::LineFault;
 use crate::names::Names;
@@ -83,7 +83,7 @@ fn broken_kind(kind: ModuleFaultKind) -> ModuleFaultKind
 // What is wrong with a line that is not UTF-8. Its signs are read up to the fault, since brackets
 // that nest too deep before it are told first.
 fn broken_line(alloc: Global, code: &[u8]) -> LineFault
-    ensures { IsFaulty result (faulty (broken_line_of (definition_in code.now))) }
+    ensures { IsFaultOf result (faulty (broken_line_of (definition_in code.now))) }
 {
     match read_definition(alloc, code) {
         Err(LineFault::Faulty(kind)) => LineFault::Faulty(broken_kind(kind)),
@@ -99,7 +99,7 @@ fn broken_line(alloc: Global, code: &[u8]) -> LineFault
 fn read_line<'a>(alloc: Global, line: &'a [u8]) -> Result<Option<&'a [u8]>, LineFault>
     ensures { MatchResult result
         (λ o. read_line_of line.now ≡ line_with o)
-        (λ e. IsFaulty e (read_line_of line.now)) }
+        (λ e. IsFaultOf e (read_line_of line.now)) }
 {
     let code = trim_end(line);
     if !is_text(line) {

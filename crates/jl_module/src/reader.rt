@@ -2,7 +2,7 @@
 ghost use Rattle.std.specs.Prelude.{◌≡◌, ◌∷◌, [], Some, None, MatchResult, MatchOption};
 ghost use Rattle.jl_lexer.specs.Signs.{signs};
 ghost use Rattle.jl_module.specs.Headings.{more_parameters as more_parameters_of, parameters_in, heading_of, definition_in};
-ghost use Rattle.jl_module.specs.Lines.{IsMissing, IsFault, IsNext, IsNameless, IsNamed, heading_read, IsDefinition, IsBody, IsNoBody};
+ghost use Rattle.jl_module.specs.Lines.{IsReadingFault, IsFault, IsNext, IsNameless, HasHeadingName, heading_read, IsDefinition, IsBody, IsNoBody};
 
 use crate::fault::LineFault;
 use crate::known::are_known;
@@ -66,7 +66,7 @@ fn more_parameters<'a>(
 ) -> Result<(Names<'a>, &'a [u8]), LineFault>
     ensures { MatchResult result
         (λ r. more_parameters_of first.entry (signs bytes.now) ≡ Some (r.0, signs r.1.now))
-        (λ e. IsMissing e (more_parameters_of first.entry (signs bytes.now))) }
+        (λ e. IsReadingFault e (more_parameters_of first.entry (signs bytes.now))) }
 {
     let mut names = first;
     let mut left = bytes;
@@ -85,7 +85,7 @@ fn more_parameters<'a>(
 fn read_parameters<'a>(alloc: Global, bytes: &'a [u8]) -> Result<(Names<'a>, &'a [u8]), LineFault>
     ensures { MatchResult result
         (λ r. parameters_in (signs bytes.now) ≡ Some (r.0, signs r.1.now))
-        (λ e. IsMissing e (parameters_in (signs bytes.now))) }
+        (λ e. IsReadingFault e (parameters_in (signs bytes.now))) }
 {
     let Some((sign, rest)) = next_sign(bytes) else {
         return Err(LineFault::Faulty(ModuleFaultKind::BadLine));
@@ -103,7 +103,7 @@ fn read_parameters<'a>(alloc: Global, bytes: &'a [u8]) -> Result<(Names<'a>, &'a
 fn read_name(bytes: &[u8]) -> Option<(&[u8], &[u8])>
     ensures { MatchOption result
         (IsNameless (signs bytes.now))
-        (λ r. IsNamed r.0.now (signs bytes.now) (signs r.1.now)) }
+        (λ r. HasHeadingName r.0.now (signs bytes.now) (signs r.1.now)) }
 {
     let (word, rest) = next_sign(bytes)?;
     if !is_def(word) {
@@ -124,7 +124,7 @@ fn read_name(bytes: &[u8]) -> Option<(&[u8], &[u8])>
 fn read_head<'a>(alloc: Global, line: &'a [u8]) -> Result<Head<'a>, LineFault>
     ensures { MatchResult result
         (λ h. heading_of line.now ≡ Some (heading_read h))
-        (λ e. IsMissing e (heading_of line.now)) }
+        (λ e. IsReadingFault e (heading_of line.now)) }
 {
     if !begins_word(line) {
         return Err(LineFault::Faulty(ModuleFaultKind::BadLine));
