@@ -12,6 +12,7 @@ use Rattle.jl_lexer.specs.Words.{def_word, is_identifier}
 use Rattle.jl_lexer.specs.Marks.{is_mark}
 use Rattle.jl_syntax.specs.Trees.{Expression, height}
 use Rattle.jl_syntax.specs.Machine.{Read, read, broken, nested_deep, read_signs}
+use Rattle.jl_text.specs.declared.limits.TheConstants.{MOST_TEXT_BYTES}
 use Rattle.jl_module.specs.Headings.{Heading, Definition, LineReading, bad, good, has_repeat, are_known, judged, with_body, with_heading, heading_of, heading_in, with_parameters, parameters_in, body_behind, definition_in}
 use Rattle.jl_module.specs.Modules.{lines, trimmed, is_remark, Line, remark, faulty, defines, line_of, broken_line, read_line, fault_after_line, first_fault, fault_of, defines_in, begins_definition, Found, find_from, find, code_in, Defines}
 
@@ -152,4 +153,4 @@ found_by false n code o h e = absurd (cc)
 
 pub code_defines : (m n code : List ℕ) → fault_of m ≡ None → code_in m n ≡ Some code → Defines code n
 code_defines m n code fine there =
-    found_by (is_identifier n) n code (find_from 1 n (lines m)) (lines_define n 1 [] (lines m) (none_by (nat_lt 1048576 (length m)) _ _ fine)) there
+    found_by (is_identifier n) n code (find_from 1 n (lines m)) (lines_define n 1 [] (lines m) (none_by (nat_lt MOST_TEXT_BYTES (length m)) _ _ fine)) there

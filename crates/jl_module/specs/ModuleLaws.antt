@@ -7,6 +7,7 @@ use Rattle.std.specs.List.{onto_first, list_any, list_all}
 use Rattle.std.specs.Str.{is_utf8, IsUtf8, bytes_eq}
 use Rattle.std.proofs.lemmas.Str.{IsUtf8-append, IsUtf8-nil, IsUtf8-from_is_utf8, IsUtf8-from_ascii}
 use Rattle.std.proofs.lemmas.Bool.{and_parts, and_from}
+use Rattle.jl_text.specs.declared.limits.TheConstants.{MOST_TEXT_BYTES}
 use Rattle.jl_text.specs.Texts.{is_name}
 use Rattle.jl_value.specs.declared.library.ModuleFault.{ModuleFault}
 use Rattle.jl_value.specs.declared.library.ModuleFaultKind.{ModuleFaultKind}
@@ -212,4 +213,4 @@ together_text (l ∷ []) h = h.0
 together_text (l ∷ k ∷ ls) h = IsUtf8-append l (10 ∷ together (k ∷ ls)) h.0 (IsUtf8-append (10 ∷ []) (together (k ∷ ls)) (IsUtf8-from_ascii (10 ∷ []) newline_ascii) (together_text (k ∷ ls) h.1))
 
 pub module_utf8 : (m : List ℕ) → fault_of m ≡ None → IsUtf8 m
-module_utf8 m e = subst IsUtf8 (together_lines m) (together_text (lines m) (texts_by 1 [] (lines m) (twice_by (nat_lt 1048576 (length m)) _ _ _ refl e)))
+module_utf8 m e = subst IsUtf8 (together_lines m) (together_text (lines m) (texts_by 1 [] (lines m) (twice_by (nat_lt MOST_TEXT_BYTES (length m)) _ _ _ refl e)))

@@ -3,6 +3,7 @@ use Rattle.std.specs.Prelude.{◌≡◌, ℕ, ◌+◌, Bool, true, false, ◌&&�
 use Rattle.std.specs.Option.{option_map_or}
 use Rattle.std.specs.List.{list_any, slice_split}
 use Rattle.std.specs.Str.{bytes_eq, is_utf8}
+use Rattle.jl_text.specs.declared.limits.TheConstants.{MOST_TEXT_BYTES}
 use Rattle.jl_value.specs.declared.library.ModuleFault.{ModuleFault}
 use Rattle.jl_value.specs.declared.library.ModuleFaultKind.{ModuleFaultKind}
 use Rattle.jl_value.specs.declared.library.ModuleFaultKind.TheVariants.{BadLine, Twice, TooDeep, TooLarge}
@@ -71,7 +72,7 @@ first_fault n names (l ∷ ls) = fault_after_line n names (read_line l) (λ more
 
 -- why a text is no module
 abbrev pub fault_of : List ℕ → Option ModuleFault
-fault_of m = if nat_lt 1048576 (length m) then Some (record { line = 1; kind = TooLarge }) else first_fault 1 [] (lines m)
+fault_of m = if nat_lt MOST_TEXT_BYTES (length m) then Some (record { line = 1; kind = TooLarge }) else first_fault 1 [] (lines m)
 
 -- whether signs begin with `def` and a name
 abbrev pub defines_in : List ℕ → List (List ℕ) → Bool

@@ -1,6 +1,7 @@
 // The lines of a module: the first fault of them, and the definition of a name.
 ghost use Rattle.std.specs.Prelude.{◌≡◌, ◌≤◌, ◌<◌, ◌∷◌, [], ℕ, length, Some, None, IfOk, MatchOption, MatchResult, true, false};
 ghost use Rattle.std.specs.Str.{is_utf8};
+ghost use Rattle.jl_text.specs.declared.limits.TheConstants.{MOST_TEXT_BYTES};
 ghost use Rattle.jl_module.specs.Modules.{lines, is_trailing as is_trailing_of, trimmed as trimmed_of, is_remark as is_remark_of, read_line as read_line_of, faulty, broken_kind as broken_kind_of, broken_line as broken_line_of, first_fault, fault_of, defines_in as defines_in_of, begins_definition, find as find_of, find_from};
 ghost use Rattle.jl_lexer.specs.Signs.{signs};
 ghost use Rattle.jl_module.specs.Headings.{definition_in};
@@ -10,6 +11,7 @@ use crate::fault::LineFault;
 use crate::names::Names;
 use crate::reader::read_definition;
 use jl_lexer::{begins_word, is_def, is_gap, is_identifier, next_sign};
+use jl_text::limits::MOST_TEXT_BYTES;
 use jl_value::{ModuleFault, ModuleFaultKind};
 use std::alloc::{AllocError, Global};
 use std::str::from_utf8;
@@ -138,7 +140,7 @@ fn check_line<'a>(
 }
 
 fn lines_fault(alloc: Global, bytes: &[u8]) -> Result<Option<ModuleFault>, AllocError>
-    requires { length bytes.now ≤ 1048576 }
+    requires { length bytes.now ≤ MOST_TEXT_BYTES }
     ensures { IfOk result (λ o. o ≡ first_fault 1 [] (lines bytes.now)) }
 {
     let mut names = Names::new(alloc);
@@ -164,7 +166,7 @@ fn lines_fault(alloc: Global, bytes: &[u8]) -> Result<Option<ModuleFault>, Alloc
 pub fn module_fault(alloc: Global, bytes: &[u8]) -> Result<Option<ModuleFault>, AllocError>
     ensures { IfOk result (λ o. o ≡ fault_of bytes.now) }
 {
-    if bytes.len() > 1_048_576 {
+    if bytes.len() > MOST_TEXT_BYTES {
         return Ok(Some(ModuleFault {
             line: 1,
             kind: ModuleFaultKind::TooLarge,
