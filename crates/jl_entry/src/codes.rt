@@ -21,8 +21,8 @@ fn code_lines(alloc: Global, code: &str, line: u64) -> Result<Bytes, AllocError>
     Ok(Bytes::new(out))
 }
 
-/// The bytes of `func_code.py`: `# first line: N`, where N is the line's number, then the code, each
-/// with a newline.
+/// The bytes of `func_code.py`: `# first line: N`, where N is the line's number, then the code,
+/// each with a newline.
 pub fn write_code(alloc: Global, code: &str, line: u64) -> Result<Bytes, AllocError>
     requires { 1 ≤ line }
     ensures text { IfOk result (λ b. b ≡ code_text code.now line) }

@@ -50,7 +50,8 @@ fn entry(alloc: Global, code: &str, args: &Table, value: &Value) -> Result<Strin
     closed(alloc, head.as_str(), value_text.as_str())
 }
 
-/// What each entry of a code and of arguments with this canonical text begins with, up to its value.
+/// What each entry of a code and of arguments with this canonical text begins with, up to its
+/// value.
 pub fn entry_head(alloc: Global, code: &str, args_text: &str) -> Result<Text, AllocError>
     ensures { IfOk result (λ t. t ≡ head_text code.now args_text.now) }
 {
@@ -106,7 +107,8 @@ pub fn read_output(alloc: Global, code: &str, args: &Args, bytes: &[u8]) -> Read
 
 /// The same for the code and the arguments whose entries begin with this head.
 pub fn read_entry(alloc: Global, head: &str, bytes: &[u8]) -> ReadOutput
-    ensures { (code : List ℕ) (ps : Members) → IsHeadOf head.now code ps → IsOutput result bytes.now code ps }
+    ensures { (code : List ℕ) (ps : Members) → IsHeadOf head.now code ps
+        → IsOutput result bytes.now code ps }
 {
     let whole = match read_value(alloc, bytes, 70) {
         Ok(whole) => whole,
@@ -137,7 +139,8 @@ pub fn read_entry(alloc: Global, head: &str, bytes: &[u8]) -> ReadOutput
 
 // Whether the bytes are this head with the value behind it.
 fn is_mine(alloc: Global, head: &str, value: &Value, bytes: &[u8]) -> Result<bool, AllocError>
-    ensures same { IfOk result (λ b. b ≡ bytes_eq ((head.now ++ text_of (tree_of value.now)) ++ 125 ∷ []) bytes.now) }
+    ensures same { IfOk result
+        (λ b. b ≡ bytes_eq ((head.now ++ text_of (tree_of value.now)) ++ 125 ∷ []) bytes.now) }
     ensures proper { OnOk result (IsProper (tree_of value.now)) }
 {
     let value_text = canonical(alloc, value)?;
@@ -147,7 +150,8 @@ fn is_mine(alloc: Global, head: &str, value: &Value, bytes: &[u8]) -> Result<boo
 
 // The value of an entry, which is its last member.
 fn last_value(whole: Value) -> Option<Value>
-    ensures { (code : List ℕ) (ps : Members) (t : Tree) → tree_of whole ≡ entry_tree code ps t → MatchOption result ⊥ (λ v. tree_of v ≡ t) }
+    ensures { (code : List ℕ) (ps : Members) (t : Tree) → tree_of whole ≡ entry_tree code ps t
+        → MatchOption result ⊥ (λ v. tree_of v ≡ t) }
 {
     match whole {
         Value::Table(table) => last_member(table.into_vec()),
@@ -160,7 +164,8 @@ fn last_value(whole: Value) -> Option<Value>
 
 // The value of the last member.
 fn last_member(members: Vec<(Text, Value)>) -> Option<Value>
-    ensures { (before : List Entry) (last : Entry) (t : Tree) → members.items ≡ before ++ last ∷ [] → tree_of last.1 ≡ t → MatchOption result ⊥ (λ v. tree_of v ≡ t) }
+    ensures { (before : List Entry) (last : Entry) (t : Tree) → members.items ≡ before ++ last ∷ []
+        → tree_of last.1 ≡ t → MatchOption result ⊥ (λ v. tree_of v ≡ t) }
 {
     let mut members = members;
     match members.pop() {
@@ -179,7 +184,8 @@ pub struct Parts<'a> {
 
 fn find_parts(whole: &Value) -> Option<Parts<'_>>
     ensures found { FindsParts result (tree_of whole.now) }
-    ensures shallow { IfSome result (λ p. (nesting (args_tree p.args.now) < nesting (tree_of whole.now))
+    ensures shallow { IfSome result
+        (λ p. (nesting (args_tree p.args.now) < nesting (tree_of whole.now))
         × (nesting (tree_of p.value.now) < nesting (tree_of whole.now))) }
 {
     let Value::Table(table) = whole else {

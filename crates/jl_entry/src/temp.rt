@@ -70,12 +70,12 @@ fn join_temp(alloc: Global, folder: &Path, part: &str, token: &Token) -> Result<
     folder.join(alloc, text.as_str())
 }
 
-/// The temporary name of a path for a token: its last part with `.tmp-` and the token behind it. (The
-/// current folder and the topmost have no last part; their temporary names stand in them.)
+/// The temporary name of a path for a token: its last part with `.tmp-` and the token behind it.
+/// (The current folder and the topmost have no last part; their temporary names stand in them.)
 pub fn temp_name(alloc: Global, last: &Path, token: &Token) -> Result<Path, AllocError>
     ensures path { IfOk result (λ p. p ≡ temp_of last.now token.now) }
-    ensures temporary { (root : PathView) (x : Final) → IsFinal root x last.now →
-        IfOk result (IsTemp root x token.now) }
+    ensures temporary { (root : PathView) (x : Final) → IsFinal root x last.now
+        → IfOk result (IsTemp root x token.now) }
 {
     let folder = folder_of(alloc, last)?;
     join_temp(alloc, &folder, last_text(last), token)

@@ -1,4 +1,5 @@
-//! Laws of a cache folder that many runs share: which moves are proper and lawful, and which states they keep.
+//! Laws of a cache folder that many runs share: which moves are proper and lawful, and which states
+//! they keep.
 #![tactic(auto)]
 
 mod laws;

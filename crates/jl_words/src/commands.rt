@@ -25,7 +25,8 @@ fn call_with(
     location: Path,
     plain: &[&str],
 ) -> Result<Settings, SettingsFault>
-    ensures given { IfOk result (λ s. call_with «module» location (map (λ w. w.now) plain.now) ≡ Some s) }
+    ensures given { IfOk result
+        (λ s. call_with «module» location (map (λ w. w.now) plain.now) ≡ Some s) }
     ensures usage { result ≡ Err SettingsFault.Usage
         → call_with «module» location (map (λ w. w.now) plain.now) ≡ None }
 {
@@ -87,7 +88,8 @@ fn clear_entry(
     func: &str,
     digits: &str,
 ) -> Result<Settings, SettingsFault>
-    ensures given { IfOk result (λ s. clear_with location («module».now ∷ func.now ∷ digits.now ∷ []) ≡ Some s) }
+    ensures given { IfOk result
+        (λ s. clear_with location («module».now ∷ func.now ∷ digits.now ∷ []) ≡ Some s) }
     ensures usage { result ≡ Err SettingsFault.Usage
         → clear_with location («module».now ∷ func.now ∷ digits.now ∷ []) ≡ None }
 {
@@ -126,7 +128,8 @@ fn clear_function(
 
 fn clear_module(alloc: Global, location: Path, module: &str) -> Result<Settings, SettingsFault>
     ensures given { IfOk result (λ s. clear_with location («module».now ∷ []) ≡ Some s) }
-    ensures usage { result ≡ Err SettingsFault.Usage → clear_with location («module».now ∷ []) ≡ None }
+    ensures usage { result ≡ Err SettingsFault.Usage
+        → clear_with location («module».now ∷ []) ≡ None }
 {
     let module = name(alloc, module)?;
     Ok(Settings::Clear {

@@ -6,7 +6,8 @@ pub fn modules_have_names()
     ensures { ModulesHaveNames }
 {}
 
-/// What the command `clear` takes away is named by names: a function with its module, and an entry with its function.
+/// What the command `clear` takes away is named by names: a function with its module, and an entry
+/// with its function.
 pub fn targets_have_names()
     ensures { TargetsHaveNames }
 {}

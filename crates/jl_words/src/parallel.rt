@@ -13,7 +13,9 @@ use jl_text::Path;
 use std::alloc::Global;
 
 fn temp(alloc: Global, parts: &Parts<'_>) -> Result<Path, SettingsFault>
-    ensures read { IfOk result (λ p. path_in (unwrap_or ((said_in parts.now).value (codes "temp-folder")) (codes ".")) ≡ Some p) }
+    ensures read { IfOk result
+        (λ p. path_in (unwrap_or ((said_in parts.now).value (codes "temp-folder")) (codes "."))
+        ≡ Some p) }
     ensures usage { result ≡ Err SettingsFault.Usage
         → path_in (unwrap_or ((said_in parts.now).value (codes "temp-folder")) (codes ".")) ≡ None }
 {
@@ -34,7 +36,8 @@ fn places(alloc: Global, parts: &Parts<'_>) -> Result<(Path, Option<Path>, Path)
 }
 
 fn some_jobs(parts: &Parts<'_>, cpus: u32) -> Option<u32>
-    ensures { result ≡ jobs_in cpus (unwrap_or ((said_in parts.now).value (codes "n-jobs")) (codes "1")) }
+    ensures { result
+        ≡ jobs_in cpus (unwrap_or ((said_in parts.now).value (codes "n-jobs")) (codes "1")) }
 {
     match parts.value("n-jobs") {
         Some(text) => jobs(text, cpus),
@@ -43,7 +46,8 @@ fn some_jobs(parts: &Parts<'_>, cpus: u32) -> Option<u32>
 }
 
 fn some_backend(parts: &Parts<'_>) -> Option<Backend>
-    ensures { result ≡ backend_in (unwrap_or ((said_in parts.now).value (codes "backend")) (codes "loky")) }
+    ensures { result
+        ≡ backend_in (unwrap_or ((said_in parts.now).value (codes "backend")) (codes "loky")) }
 {
     match parts.value("backend") {
         Some(text) => backend(text),
@@ -58,7 +62,9 @@ fn window(text: &str, jobs: u32) -> Option<Window>
 }
 
 fn some_window(parts: &Parts<'_>, jobs: u32) -> Option<Window>
-    ensures { result ≡ window_of (unwrap_or ((said_in parts.now).value (codes "pre-dispatch")) (codes "2*n_jobs")) jobs }
+    ensures { result
+        ≡ window_of (unwrap_or ((said_in parts.now).value (codes "pre-dispatch"))
+        (codes "2*n_jobs")) jobs }
 {
     match parts.value("pre-dispatch") {
         Some(text) => window(text, jobs),
@@ -76,7 +82,8 @@ fn jobs_given(parts: &Parts<'_>, cpus: u32) -> Option<(u32, Backend, Window)>
 }
 
 fn some_batch(parts: &Parts<'_>) -> Option<BatchSize>
-    ensures { result ≡ batch_in (unwrap_or ((said_in parts.now).value (codes "batch-size")) (codes "auto")) }
+    ensures { result
+        ≡ batch_in (unwrap_or ((said_in parts.now).value (codes "batch-size")) (codes "auto")) }
 {
     match parts.value("batch-size") {
         Some(text) => batch(text),
@@ -85,7 +92,8 @@ fn some_batch(parts: &Parts<'_>) -> Option<BatchSize>
 }
 
 fn some_mode(parts: &Parts<'_>) -> Option<Mode>
-    ensures { result ≡ mode_in (unwrap_or ((said_in parts.now).value (codes "return-as")) (codes "list")) }
+    ensures { result
+        ≡ mode_in (unwrap_or ((said_in parts.now).value (codes "return-as")) (codes "list")) }
 {
     match parts.value("return-as") {
         Some(text) => mode(text),
@@ -94,7 +102,8 @@ fn some_mode(parts: &Parts<'_>) -> Option<Mode>
 }
 
 fn some_most_bytes(parts: &Parts<'_>) -> Option<Option<u64>>
-    ensures { result ≡ most_bytes_in (unwrap_or ((said_in parts.now).value (codes "max-nbytes")) (codes "1M")) }
+    ensures { result
+        ≡ most_bytes_in (unwrap_or ((said_in parts.now).value (codes "max-nbytes")) (codes "1M")) }
 {
     match parts.value("max-nbytes") {
         Some(text) => most_bytes(text),

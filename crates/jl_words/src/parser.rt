@@ -41,7 +41,8 @@ fn with_option<'a>(
     command: Command<'a>,
     name: &'a str,
 ) -> Result<Command<'a>, AllocError>
-    ensures { IfOk result (λ c. app_of c ≡ with_rule (app_of command.entry) (option_rule name.entry.now)) }
+    ensures { IfOk result
+        (λ c. app_of c ≡ with_rule (app_of command.entry) (option_rule name.entry.now)) }
 {
     command.arg(option_argument(alloc, name))
 }
@@ -73,8 +74,10 @@ pub(crate) fn matches<'a>(
     words: &'a [String],
 ) -> Result<ArgMatches<'a>, SettingsFault>
     requires free { IsFree (map (λ n. n.now) names.now) }
-    ensures found { IfOk result (λ m. (s : Said) → said_by_words (map (λ n. n.now) names.entry.now)
-        (map string_bytes words.entry.now) ≡ Some s → FoundAsSaid (map (λ n. n.now) names.entry.now) m s) }
+    ensures found { IfOk result
+        (λ m. (s : Said)
+        → said_by_words (map (λ n. n.now) names.entry.now) (map string_bytes words.entry.now) ≡ Some s
+        → FoundAsSaid (map (λ n. n.now) names.entry.now) m s) }
     ensures fault { IfErr result (λ e. (s : Said) → said_by_words (map (λ n. n.now) names.entry.now)
         (map string_bytes words.entry.now) ≡ Some s → e ≡ Memory) }
 {
@@ -111,8 +114,11 @@ fn given<'a>(
     names: &[&'a str],
     matches: &ArgMatches<'a>,
 ) -> Result<Vec<Given<'a>>, AllocError>
-    ensures { IfOk result (λ v. (n : List ℕ) → value_among (uses_of v.items) n
-        ≡ cond (has_option n (map (λ m. m.now) names.now)) (first_value (found_of matches.now) n) None) }
+    ensures { IfOk result
+        (λ v. (n : List ℕ)
+        → value_among (uses_of v.items) n
+        ≡ cond (has_option n (map (λ m. m.now) names.now))
+        (first_value (found_of matches.now) n) None) }
 {
     let mut given = Vec::new(alloc);
     for name in names {

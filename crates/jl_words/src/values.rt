@@ -39,7 +39,8 @@ fn module_path(alloc: Global, text: &str) -> Result<Path, SettingsFault>
 
 /// The module's path that `--module` gives.
 pub(crate) fn module(alloc: Global, parts: &Parts<'_>) -> Result<Path, SettingsFault>
-    ensures read { IfOk result (λ p. required module_in ((said_in parts.now).value (codes "module")) ≡ Some p) }
+    ensures read { IfOk result
+        (λ p. required module_in ((said_in parts.now).value (codes "module")) ≡ Some p) }
     ensures usage { result ≡ Err SettingsFault.Usage
         → required module_in ((said_in parts.now).value (codes "module")) ≡ None }
 {
@@ -51,7 +52,8 @@ pub(crate) fn module(alloc: Global, parts: &Parts<'_>) -> Result<Path, SettingsF
 
 /// The path that `--location` must give.
 pub(crate) fn location(alloc: Global, parts: &Parts<'_>) -> Result<Path, SettingsFault>
-    ensures read { IfOk result (λ p. required path_in ((said_in parts.now).value (codes "location")) ≡ Some p) }
+    ensures read { IfOk result
+        (λ p. required path_in ((said_in parts.now).value (codes "location")) ≡ Some p) }
     ensures usage { result ≡ Err SettingsFault.Usage
         → required path_in ((said_in parts.now).value (codes "location")) ≡ None }
 {
@@ -63,7 +65,8 @@ pub(crate) fn location(alloc: Global, parts: &Parts<'_>) -> Result<Path, Setting
 
 /// The path that `--location` may give.
 pub(crate) fn some_location(alloc: Global, parts: &Parts<'_>) -> Result<Option<Path>, SettingsFault>
-    ensures read { IfOk result (λ p. optional path_in ((said_in parts.now).value (codes "location")) ≡ Some p) }
+    ensures read { IfOk result
+        (λ p. optional path_in ((said_in parts.now).value (codes "location")) ≡ Some p) }
     ensures usage { result ≡ Err SettingsFault.Usage
         → optional path_in ((said_in parts.now).value (codes "location")) ≡ None }
 {

@@ -42,7 +42,8 @@ fn set(
     cpus: u32,
 ) -> Result<Settings, SettingsFault>
     ensures given { IfOk result (λ s. set_by command cpus (said_in parts.now) ≡ Some s) }
-    ensures usage { result ≡ Err SettingsFault.Usage → set_by command cpus (said_in parts.now) ≡ None }
+    ensures usage { result ≡ Err SettingsFault.Usage
+        → set_by command cpus (said_in parts.now) ≡ None }
 {
     match command {
         Command::Call => call(alloc, parts),
