@@ -160,12 +160,14 @@ pub trait Library: Sized {
     ghost calls: { Self → ℕ };
 
     fn read_module(&mut self, alloc: Global, bytes: &[u8]) -> ReadModule
-        ensures read { HasRead result (fault bytes.now) bytes.now (loaded self.old) (loaded self.new) }
+        ensures read { HasRead result (fault bytes.now) bytes.now (loaded self.old)
+            (loaded self.new) }
         ensures calls { calls self.new ≡ calls self.old };
 
     fn code_of(&self, name: &str) -> Option<CodeRef<'_>>
         ensures { MatchOption result (code (loaded self.now) name.now ≡ None)
-            (λ r. (code (loaded self.now) name.now ≡ Some r.code.now) × (line (loaded self.now) name.now ≡ r.line)) };
+            (λ r. (code (loaded self.now) name.now ≡ Some r.code.now)
+            × (line (loaded self.now) name.now ≡ r.line)) };
 
     fn call(&mut self, alloc: Global, name: &str, args: &Args) -> Called
         requires { IsSome (code (loaded self.old) name.now) }
@@ -181,7 +183,8 @@ pub trait Library: Sized {
     ghost named: { (m n c : List ℕ) → code m n ≡ Some c → IsTrue (is_name n) };
 
     // Lines count from 1, and a module has no more of them than bytes and one.
-    ghost lines: { (m n c : List ℕ) → code m n ≡ Some c → (1 ≤ line m n) × (line m n ≤ length m + 1) };
+    ghost lines: { (m n c : List ℕ) → code m n ≡ Some c
+        → (1 ≤ line m n) × (line m n ≤ length m + 1) };
 
     // No code is longer than its module.
     ghost short: { (m n c : List ℕ) → code m n ≡ Some c → length c ≤ length m };

@@ -17,8 +17,8 @@ use std::alloc::{AllocError, Global};
 
 /// The value that JSON text is, with lists and tables nested no deeper than `depth`.
 ///
-/// The first fault in the order of the text's canonical form is answered, a node's before its members'.
-/// Of two members with one name the later stands. An array counts as two levels.
+/// The first fault in the order of the text's canonical form is answered, a node's before its
+/// members'. Of two members with one name the later stands. An array counts as two levels.
 pub fn read_value(alloc: Global, bytes: &[u8], depth: u32) -> Result<Value, ValueFault>
     requires { depth ≤ 100 }
     ensures ok { IfOk result (λ v. read_bytes depth bytes.now ≡ Ok (tree_of v)) }

@@ -7,7 +7,8 @@ use jl_text::Text;
 use std::alloc::{AllocError, Global};
 use std::marker::Model;
 
-/// A value: JSON whose numbers are signed 64-bit whole numbers, and arrays of such numbers beside it.
+/// A value: JSON whose numbers are signed 64-bit whole numbers, and arrays of such numbers beside
+/// it.
 #[cycle(value)]
 #[derive(Drop)]
 pub enum Value {

@@ -21,7 +21,8 @@ struct Module {
     ghost cut: { lines.items ≡ map as_text (tiny_lines bytes) },
 }
 
-/// A library for tests: each line of a module is `NAME K`, and a call answers K plus the number of arguments.
+/// A library for tests: each line of a module is `NAME K`, and a call answers K plus the number of
+/// arguments.
 #[derive(Drop)]
 pub struct TinyLibrary {
     module: Module,
@@ -94,7 +95,8 @@ fn defines(line: &str, name: &str) -> bool
 // The line that defines a name, and its number.
 fn find_line<'a>(lines: &'a [Text], name: &str) -> Option<CodeRef<'a>>
     ensures { MatchOption result (code_in lines.now name.now ≡ None)
-        (λ r. (code_in lines.now name.now ≡ Some r.code.now) × (line_in 1 lines.now name.now ≡ r.line)) }
+        (λ r. (code_in lines.now name.now ≡ Some r.code.now)
+        × (line_in 1 lines.now name.now ≡ r.line)) }
 {
     for i in 0..lines.len() {
         let code = lines[i].as_str();
