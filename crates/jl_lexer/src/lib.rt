@@ -1,4 +1,5 @@
-//! The signs of a line of the definition language, and what its words are: names, values, operators and functions.
+//! The signs of a line of the definition language, and what its words are: names, values, operators
+//! and functions.
 #![tactic(auto)]
 
 mod lexer;

@@ -27,7 +27,10 @@ fn arithmetic(sign: &[u8]) -> Option<Operator>
 }
 
 fn ordering(sign: &[u8]) -> Option<Operator>
-    ensures { result ≡ operator_among (Less ∷ AtMost ∷ Greater ∷ AtLeast ∷ Plus ∷ Minus ∷ Times ∷ Quotient ∷ Remainder ∷ []) sign.now }
+    ensures { result
+        ≡ operator_among
+        (Less ∷ AtMost ∷ Greater ∷ AtLeast ∷ Plus ∷ Minus ∷ Times ∷ Quotient ∷ Remainder
+        ∷ []) sign.now }
 {
     if sign == b"<".as_slice() {
         return Some(Operator::Less);

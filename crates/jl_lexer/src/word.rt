@@ -153,7 +153,9 @@ fn constant(alloc: Global, word: &[u8]) -> Result<Option<Value>, AllocError>
 impl<'a> Word<'a> {
     /// The word that these bytes are, if they are a name or write a value.
     pub fn read(alloc: Global, bytes: &'a [u8]) -> Result<Option<Word<'a>>, AllocError>
-        ensures { IfOk result (λ o. MatchOption o (is_leaf bytes.now ≡ false) (λ w. (w ≡ bytes.now) × (is_leaf bytes.now ≡ true))) }
+        ensures { IfOk result
+            (λ o. MatchOption o (is_leaf bytes.now ≡ false)
+            (λ w. (w ≡ bytes.now) × (is_leaf bytes.now ≡ true))) }
     {
         if is_identifier(bytes) {
             let value = constant(alloc, bytes)?;
@@ -176,7 +178,8 @@ impl<'a> Word<'a> {
 
     /// The value that the word writes.
     pub fn value(&self) -> Option<&Value>
-        ensures { MatchOption result (constant_of self.now ≡ None) (λ v. constant_of self.now ≡ Some (tree_of v.now)) }
+        ensures { MatchOption result (constant_of self.now ≡ None)
+            (λ v. constant_of self.now ≡ Some (tree_of v.now)) }
     {
         self.value.as_ref()
     }
@@ -232,7 +235,9 @@ impl<'a> Model for Key<'a> {
 impl<'a> Key<'a> {
     /// The key that these bytes write, if they do.
     pub fn read(alloc: Global, bytes: &'a [u8]) -> Result<Option<Key<'a>>, AllocError>
-        ensures { IfOk result (λ o. MatchOption o (is_key bytes.now ≡ false) (λ k. (k ≡ bytes.now) × (is_key bytes.now ≡ true))) }
+        ensures { IfOk result
+            (λ o. MatchOption o (is_key bytes.now ≡ false)
+            (λ k. (k ≡ bytes.now) × (is_key bytes.now ≡ true))) }
     {
         let Some(text) = text(alloc, bytes)? else {
             return Ok(None);

@@ -136,7 +136,9 @@ fn has_leading_zero(word: &[u8]) -> bool
 fn number_value(word: &[u8]) -> Option<u64>
     requires { IsTrue (list_all is_digit_of word.now) }
     ensures low { IfSome result (λ n. n ≤ 9223372036854775807) }
-    ensures value { result ≡ (if nat_le (number_behind 0 word.now) 9223372036854775807 then Some (number_behind 0 word.now) else None) }
+    ensures value { result
+        ≡ (if nat_le (number_behind 0 word.now) 9223372036854775807
+        then Some (number_behind 0 word.now) else None) }
 {
     let mut value: u64 = 0;
     for digit in word {
