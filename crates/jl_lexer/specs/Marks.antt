@@ -1,5 +1,5 @@
 -- The signs that write operators and functions, and how tightly operators bind.
-use Rattle.std.specs.Prelude.{ℕ, Bool, if◌then◌else◌, List, [], ◌∷◌, Option, Some, None}
+use Rattle.std.specs.Prelude.{ℕ, Bool, if◌then◌else◌, List, [], ◌∷◌, Option, Some, None, codes}
 use Rattle.std.specs.Str.{bytes_eq}
 use Rattle.jl_lexer.specs.declared.operators.Operator.{Operator}
 use Rattle.jl_lexer.specs.declared.operators.Operator.TheVariants.{Or, And, Equal, Unequal, Less, AtMost, Greater, AtLeast, Plus, Minus, Times, Quotient, Remainder}
@@ -14,37 +14,37 @@ is_mark m w = bytes_eq w (m ∷ [])
 
 -- how an operator is written
 abbrev pub operator_word : Operator → List ℕ
-operator_word Or = 111 ∷ 114 ∷ []
-operator_word And = 97 ∷ 110 ∷ 100 ∷ []
-operator_word Equal = 61 ∷ 61 ∷ []
-operator_word Unequal = 33 ∷ 61 ∷ []
+operator_word Or = codes "or"
+operator_word And = codes "and"
+operator_word Equal = codes "=="
+operator_word Unequal = codes "!="
 operator_word Less = 60 ∷ []
-operator_word AtMost = 60 ∷ 61 ∷ []
+operator_word AtMost = codes "<="
 operator_word Greater = 62 ∷ []
-operator_word AtLeast = 62 ∷ 61 ∷ []
+operator_word AtLeast = codes ">="
 operator_word Plus = 43 ∷ []
 operator_word Minus = 45 ∷ []
 operator_word Times = 42 ∷ []
-operator_word Quotient = 47 ∷ 47 ∷ []
+operator_word Quotient = codes "//"
 operator_word Remainder = 37 ∷ []
 
 abbrev pub prefix_word : Prefix → List ℕ
-prefix_word Not = 110 ∷ 111 ∷ 116 ∷ []
+prefix_word Not = codes "not"
 prefix_word Negative = 45 ∷ []
 
 -- `if` and `else`
 abbrev pub if_word : List ℕ
-if_word = 105 ∷ 102 ∷ []
+if_word = codes "if"
 
 abbrev pub else_word : List ℕ
-else_word = 101 ∷ 108 ∷ 115 ∷ 101 ∷ []
+else_word = codes "else"
 
 -- `for` and `in`
 abbrev pub for_word : List ℕ
-for_word = 102 ∷ 111 ∷ 114 ∷ []
+for_word = codes "for"
 
 abbrev pub in_word : List ℕ
-in_word = 105 ∷ 110 ∷ []
+in_word = codes "in"
 
 -- the operator among these that a sign writes
 abbrev pub operator_among : List Operator → List ℕ → Option Operator
@@ -60,12 +60,12 @@ prefix_of w = if bytes_eq w (prefix_word Not) then Some Not else (if bytes_eq w 
 
 -- how a function is written
 abbrev pub function_word : Function → List ℕ
-function_word Len = 108 ∷ 101 ∷ 110 ∷ []
-function_word Sum = 115 ∷ 117 ∷ 109 ∷ []
-function_word Min = 109 ∷ 105 ∷ 110 ∷ []
-function_word Max = 109 ∷ 97 ∷ 120 ∷ []
-function_word Range = 114 ∷ 97 ∷ 110 ∷ 103 ∷ 101 ∷ []
-function_word Array = 97 ∷ 114 ∷ 114 ∷ 97 ∷ 121 ∷ []
+function_word Len = codes "len"
+function_word Sum = codes "sum"
+function_word Min = codes "min"
+function_word Max = codes "max"
+function_word Range = codes "range"
+function_word Array = codes "array"
 
 abbrev pub function_among : List Function → List ℕ → Option Function
 function_among [] w = None

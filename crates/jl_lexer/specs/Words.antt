@@ -1,5 +1,5 @@
 -- Words: names, the reserved ones, and whole numbers.
-use Rattle.std.specs.Prelude.{ℕ, ◌+◌, ◌-◌, ◌*◌, Bool, true, false, not, ◌&&◌, ◌||◌, nat_le, nat_lt, nat_eq, if◌then◌else◌, pos, List, [], ◌∷◌, length, Option, Some, None, option_map}
+use Rattle.std.specs.Prelude.{ℕ, ◌+◌, ◌-◌, ◌*◌, Bool, true, false, not, ◌&&◌, ◌||◌, nat_le, nat_lt, nat_eq, if◌then◌else◌, pos, List, [], ◌∷◌, length, Option, Some, None, option_map, codes}
 use Rattle.std.specs.List.{list_all}
 use Rattle.std.specs.Str.{bytes_eq, is_utf8}
 use Rattle.jl_value.specs.Tree.{Tree, null, truth, whole, text}
@@ -9,25 +9,25 @@ use Rattle.jl_lexer.specs.Signs.{is_digit}
 
 -- `def`
 unfoldable pub def_word : List ℕ
-def_word = 100 ∷ 101 ∷ 102 ∷ []
+def_word = codes "def"
 
 -- `def`, `if`, `else`, `for` and `in`
 unfoldable pub is_form_word : List ℕ → Bool
 is_form_word w =
-    bytes_eq w (100 ∷ 101 ∷ 102 ∷ []) || (bytes_eq w (105 ∷ 102 ∷ []) || (bytes_eq w (101 ∷ 108 ∷ 115 ∷ 101 ∷ [])
-    || (bytes_eq w (102 ∷ 111 ∷ 114 ∷ []) || bytes_eq w (105 ∷ 110 ∷ []))))
+    bytes_eq w (codes "def") || (bytes_eq w (codes "if") || (bytes_eq w (codes "else")
+    || (bytes_eq w (codes "for") || bytes_eq w (codes "in"))))
 
 -- `or`, `and`, `not`, `True`, `False` and `None`
 unfoldable pub is_truth_word : List ℕ → Bool
 is_truth_word w =
-    bytes_eq w (111 ∷ 114 ∷ []) || (bytes_eq w (97 ∷ 110 ∷ 100 ∷ []) || (bytes_eq w (110 ∷ 111 ∷ 116 ∷ [])
-    || (bytes_eq w (84 ∷ 114 ∷ 117 ∷ 101 ∷ []) || (bytes_eq w (70 ∷ 97 ∷ 108 ∷ 115 ∷ 101 ∷ []) || bytes_eq w (78 ∷ 111 ∷ 110 ∷ 101 ∷ [])))))
+    bytes_eq w (codes "or") || (bytes_eq w (codes "and") || (bytes_eq w (codes "not")
+    || (bytes_eq w (codes "True") || (bytes_eq w (codes "False") || bytes_eq w (codes "None")))))
 
 -- `len`, `sum`, `min`, `max`, `range` and `array`
 unfoldable pub is_function_word : List ℕ → Bool
 is_function_word w =
-    bytes_eq w (108 ∷ 101 ∷ 110 ∷ []) || (bytes_eq w (115 ∷ 117 ∷ 109 ∷ []) || (bytes_eq w (109 ∷ 105 ∷ 110 ∷ [])
-    || (bytes_eq w (109 ∷ 97 ∷ 120 ∷ []) || (bytes_eq w (114 ∷ 97 ∷ 110 ∷ 103 ∷ 101 ∷ []) || bytes_eq w (97 ∷ 114 ∷ 114 ∷ 97 ∷ 121 ∷ [])))))
+    bytes_eq w (codes "len") || (bytes_eq w (codes "sum") || (bytes_eq w (codes "min")
+    || (bytes_eq w (codes "max") || (bytes_eq w (codes "range") || bytes_eq w (codes "array")))))
 
 abbrev pub is_reserved : List ℕ → Bool
 is_reserved w = is_form_word w || (is_truth_word w || is_function_word w)
@@ -109,13 +109,13 @@ is_key w = is_some (key_in w)
 
 -- `True`, `False` and `None`
 unfoldable pub true_word : List ℕ
-true_word = 84 ∷ 114 ∷ 117 ∷ 101 ∷ []
+true_word = codes "True"
 
 unfoldable pub false_word : List ℕ
-false_word = 70 ∷ 97 ∷ 108 ∷ 115 ∷ 101 ∷ []
+false_word = codes "False"
 
 unfoldable pub none_word : List ℕ
-none_word = 78 ∷ 111 ∷ 110 ∷ 101 ∷ []
+none_word = codes "None"
 
 -- the value of `True`, `False`, `None` or a text
 abbrev pub named_constant : List ℕ → Option Tree
