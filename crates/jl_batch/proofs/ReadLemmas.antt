@@ -3,7 +3,7 @@ use Rattle.std.proofs.Common.{◌≡◌, ℕ, zero, suc, ◌≤◌, ◌<◌, Lis
 use Rattle.std.specs.Prelude.{pos, Some, None}
 use Rattle.jl_batch.specs.declared.lexer.Lexeme.{Lexeme}
 use Rattle.jl_batch.specs.declared.parser.Reader.{Reader}
-use Rattle.jl_batch.specs.Parser.{step, started, finished}
+use Rattle.jl_batch.specs.Parser.{step, started, value_at_end}
 use Rattle.jl_batch.specs.Lexemes.{front_lexeme, without_blanks}
 use Rattle.jl_batch.specs.Reads.{value_from, value_behind, value_in}
 
@@ -36,14 +36,14 @@ one_more zero jobs r r' left s rest short few e f = absurd (omega arith)
 one_more (suc k) jobs r r' left s rest short few e f = (k, omega arith, rw (e, f) refl)
 
 pub finish_value : (text left : List ℕ) (jobs : ℕ) (r r' : Reader) (s : Lexeme) (rest : List ℕ) → Leaves text left jobs r → length rest < length left → front_lexeme left ≡ Some (s, rest) → step (pos jobs) r s ≡ Some r'
-    → nat_eq (length rest) 0 ≡ true → value_in text jobs ≡ finished r'
+    → nat_eq (length rest) 0 ≡ true → value_in text jobs ≡ value_at_end r'
 finish_value text left jobs r r' s rest l short e f none =
     let more = one_more l.most jobs r r' left s rest short l.enough e f in
-    l.same ∙ more.2 ∙ ap (λ b. cond b (finished r') (value_from more.0 (pos jobs) r' (without_blanks rest))) none
+    l.same ∙ more.2 ∙ ap (λ b. cond b (value_at_end r') (value_from more.0 (pos jobs) r' (without_blanks rest))) none
 
 pub leaves_next : (text left : List ℕ) (jobs : ℕ) (r r' : Reader) (s : Lexeme) (rest : List ℕ) → Leaves text left jobs r → length rest < length left → front_lexeme left ≡ Some (s, rest) → step (pos jobs) r s ≡ Some r'
     → nat_eq (length rest) 0 ≡ false → length (without_blanks rest) ≤ length rest → Leaves text (without_blanks rest) jobs r'
 leaves_next text left jobs r r' s rest l short e f some fewer =
     let more = one_more l.most jobs r r' left s rest short l.enough e f in
     let enough : length rest ≤ more.0 = more.1 in
-    record { most = more.0; enough = omega arith; same = l.same ∙ more.2 ∙ ap (λ b. cond b (finished r') (value_from more.0 (pos jobs) r' (without_blanks rest))) some }
+    record { most = more.0; enough = omega arith; same = l.same ∙ more.2 ∙ ap (λ b. cond b (value_at_end r') (value_from more.0 (pos jobs) r' (without_blanks rest))) some }

@@ -14,13 +14,13 @@ use Rattle.jl_batch.specs.declared.parser.Level.{Level}
 use Rattle.jl_batch.specs.declared.parser.Reader.{Reader}
 use Rattle.jl_numbers.specs.Division.{within_64}
 use Rattle.jl_batch.specs.Arithmetic.{is_tight}
-use Rattle.jl_batch.specs.Expressions.{Expression, whole, jobs, negation, operation, applied_to, value_of, Kind, a_factor, a_term, a_sum, Spells, number, name, bracket, minus, factor, product, term, sum, negated}
-use Rattle.jl_batch.specs.Parser.{fresh, joined, total, with_operand, with_tight, with_loose, closed, step_at, step, finished_at, run, started}
+use Rattle.jl_batch.specs.Expressions.{Formula, whole, jobs, negation, operation, applied_to, worth_of, Kind, a_factor, a_term, a_sum, Spells, number, name, bracket, minus, factor, product, term, sum, negated}
+use Rattle.jl_batch.specs.Parser.{fresh, joined, total, with_operand, with_tight, with_loose, bracket_closed, step_at, step, finished_at, read_lexemes, started}
 use Rattle.jl_batch.proofs.Completeness.{waiting}
 
 -- lexemes that spell an expression of a kind and a value
 abbrev pub IsRead : Kind → ℤ → ℕ → List Lexeme → ℤ → Type 0
-IsRead k n d ss v = (e : Expression) × Spells k d ss e × (value_of n e ≡ Some v)
+IsRead k n d ss v = (e : Formula) × Spells k d ss e × (worth_of n e ≡ Some v)
 
 -- lexemes behind which any term makes a sum
 abbrev SumFrom : ℤ → ℕ → List Lexeme → Option Pending → Type 0
@@ -100,13 +100,13 @@ term_from_product : (n : ℤ) (r : ℕ) (g : List Lexeme) (v : ℤ) (op : Operat
 term_from_product n r g v op tight h = λ d f x u w fits k neg e.
     let same : d ≡ r = omega arith in
     let P : ℕ → Type 0 = λ d'. Spells a_factor d' f k.0 in
-    let worth : applied_to op (value_of n h.0) (value_of n k.0) ≡ Some w = rw (h.2, k.2, same_Some x u neg) e in
+    let worth : applied_to op (worth_of n h.0) (worth_of n k.0) ≡ Some w = rw (h.2, k.2, same_Some x u neg) e in
     same_lexemes (g ++ Infix op ∷ f) ((g ++ Infix op ∷ []) ++ f) (sym (append_assoc g (Infix op ∷ []) f)) (operation op h.0 k.0, product h.1 tight (subst P same k.1), worth)
 
 -- behind a sum and an operator
 sum_from_sum : (n : ℤ) (r : ℕ) (g : List Lexeme) (v : ℤ) (op : Operator) → is_tight op ≡ false → IsRead a_sum n r g v → SumFrom n r (g ++ Infix op ∷ []) (waiting v op)
 sum_from_sum n r g v op loose h = λ f x w k e.
-    let worth : applied_to op (value_of n h.0) (value_of n k.0) ≡ Some w = rw (h.2, k.2) e in
+    let worth : applied_to op (worth_of n h.0) (worth_of n k.0) ≡ Some w = rw (h.2, k.2) e in
     same_lexemes (g ++ Infix op ∷ f) ((g ++ Infix op ∷ []) ++ f) (sym (append_assoc g (Infix op ∷ []) f)) (operation op h.0 k.0, sum h.1 loose k.1, worth)
 
 -- behind one more minus lexeme
@@ -114,7 +114,7 @@ term_from_minus : (n : ℤ) (r m : ℕ) (c : List Lexeme) (t : Option Pending) �
 term_from_minus n r m c t from = λ d f x u v fits h neg e.
     let fits' : m + suc d ≡ r = omega arith in
     option_and_then_some (negated m) (within_64 (neg_ℤ x)) u (rw add-one at neg) (λ w gives rest.
-    let worth : option_and_then (λ y. within_64 (neg_ℤ y)) (value_of n h.0) ≡ Some w = rw h.2 gives in
+    let worth : option_and_then (λ y. within_64 (neg_ℤ y)) (worth_of n h.0) ≡ Some w = rw h.2 gives in
     same_lexemes (c ++ Infix Minus ∷ f) ((c ++ Infix Minus ∷ []) ++ f) (sym (append_assoc c (Infix Minus ∷ []) f))
     (from (suc d) (Infix Minus ∷ f) w u v fits' (negation h.0, minus h.1, worth) rest e))
 
@@ -207,7 +207,7 @@ goes_on n p l outer x op r' h e =
 rejoined : (p a b c d q : List Lexeme) → p ≡ d ++ q → d ≡ a ++ (b ++ (c ++ Opening ∷ [])) → (a ++ (b ++ c)) ++ (Opening ∷ (q ++ Closing ∷ [])) ≡ p ++ Closing ∷ []
 rejoined p a b c d q e f = rw (e, f) (simp append_assoc)
 
-closes : (n : ℤ) (p : List Lexeme) (l : Level) (outer : List Level) (x v : ℤ) (r' : Reader) (h : Behind n p l.sum l.term l.room outer x) → IsRead a_sum n l.room (h.terms ++ h.factors) v → closed outer v ≡ Some r' → HasRead n (p ++ Closing ∷ []) r'
+closes : (n : ℤ) (p : List Lexeme) (l : Level) (outer : List Level) (x v : ℤ) (r' : Reader) (h : Behind n p l.sum l.term l.room outer x) → IsRead a_sum n l.room (h.terms ++ h.factors) v → bracket_closed outer v ≡ Some r' → HasRead n (p ++ Closing ∷ []) r'
 closes n p l [] x v r' h k e = absurd (none-some r' e)
 closes n p l (o ∷ os) x v r' h k e =
     let (a, b, c, made, around, sum_from, term_from, nests) = h.around in
@@ -242,7 +242,7 @@ steps n p l outer (Some x) Jobs r' h e = absurd (none-some r' e)
 steps n p l outer (Some x) (Infix op) r' h e = goes_on n p l outer x op r' h e
 steps n p l outer (Some x) Opening r' h e = absurd (none-some r' e)
 steps n p l outer (Some x) Closing r' h e =
-    option_and_then_some (closed outer) (total l x) r' e (λ v has gives. closes n p l outer x v r' h (sum_here n p l outer x v h has) gives)
+    option_and_then_some (bracket_closed outer) (total l x) r' e (λ v has gives. closes n p l outer x v r' h (sum_here n p l outer x v h has) gives)
 
 ends : (n : ℤ) (p : List Lexeme) (l : Level) (outer : List Level) (value : Option ℤ) (v : ℤ) → ReadAt n p l outer value → finished_at l outer value ≡ Some v → IsRead a_sum n 32 p v
 ends n p l outer None v h e = absurd (none-some v e)
@@ -252,15 +252,15 @@ ends n p l [] (Some x) v h e =
     subst P h.around.1 (same_lexemes (h.terms ++ h.factors) p whole_text (sum_here n p l [] x v h e))
 ends n p l (o ∷ os) (Some x) v h e = absurd (none-some v e)
 
-reads : (n : ℤ) (ss p : List Lexeme) (r : Reader) (v : ℤ) → HasRead n p r → run n r ss ≡ Some v → IsRead a_sum n 32 (p ++ ss) v
+reads : (n : ℤ) (ss p : List Lexeme) (r : Reader) (v : ℤ) → HasRead n p r → read_lexemes n r ss ≡ Some v → IsRead a_sum n 32 (p ++ ss) v
 reads n [] p r v h e = same_lexemes p (p ++ []) (sym (append-nil p)) (ends n p r.level r.outer r.value v h e)
 reads n (s ∷ ss) p r v h e =
-    option_and_then_some (λ r'. run n r' ss) (step n r s) v e (λ r' stepped more.
+    option_and_then_some (λ r'. read_lexemes n r' ss) (step n r s) v e (λ r' stepped more.
     same_lexemes ((p ++ s ∷ []) ++ ss) (p ++ s ∷ ss) (append_assoc p (s ∷ []) ss)
     (reads n ss (p ++ s ∷ []) r' v (steps n p r.level r.outer r.value s r' h stepped) more))
 
 -- lexemes that lead to a value spell an expression of that value
-pub sound : (n : ℤ) (ss : List Lexeme) (v : ℤ) → run n started ss ≡ Some v → IsRead a_sum n 32 ss v
+pub sound : (n : ℤ) (ss : List Lexeme) (v : ℤ) → read_lexemes n started ss ≡ Some v → IsRead a_sum n 32 ss v
 sound n ss v e =
     let expects : Expects n [] None None 0 32 [] = record {
       before = [];

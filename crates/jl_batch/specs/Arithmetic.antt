@@ -6,12 +6,12 @@ use Rattle.jl_batch.specs.declared.arithmetic.Operator.{Operator}
 use Rattle.jl_batch.specs.declared.arithmetic.Operator.TheVariants.{Plus, Minus, Times, Over, Modulo}
 
 -- an operator's value
-abbrev pub applied : Operator → ℤ → ℤ → Option ℤ
-applied Plus x y = within_64 (x +ℤ y)
-applied Minus x y = within_64 (x -ℤ y)
-applied Times x y = within_64 (x *ℤ y)
-applied Over x y = divided floor_quotient x y
-applied Modulo x y = divided floor_rest x y
+abbrev pub operation_value : Operator → ℤ → ℤ → Option ℤ
+operation_value Plus x y = within_64 (x +ℤ y)
+operation_value Minus x y = within_64 (x -ℤ y)
+operation_value Times x y = within_64 (x *ℤ y)
+operation_value Over x y = divided floor_quotient x y
+operation_value Modulo x y = divided floor_rest x y
 
 -- whether an operator binds before `+` and `-`
 abbrev pub is_tight : Operator → Bool

@@ -6,27 +6,27 @@ use Rattle.jl_batch.specs.declared.arithmetic.Operator.TheVariants.{Minus}
 use Rattle.jl_batch.specs.declared.lexer.Lexeme.{Lexeme}
 use Rattle.jl_batch.specs.declared.lexer.Lexeme.TheVariants.{Whole, Jobs, Infix, Opening, Closing}
 use Rattle.jl_numbers.specs.Division.{within_64}
-use Rattle.jl_batch.specs.Arithmetic.{applied, is_tight}
+use Rattle.jl_batch.specs.Arithmetic.{operation_value, is_tight}
 
 -- an expression, as a tree
-pub data Expression : Type 0 where
-  whole : ℤ → Expression
-  jobs : Expression
-  negation : Expression → Expression
-  operation : Operator → Expression → Expression → Expression
+pub data Formula : Type 0 where
+  whole : ℤ → Formula
+  jobs : Formula
+  negation : Formula → Formula
+  operation : Operator → Formula → Formula → Formula
 
 -- an operator's value, where both sides have one
 abbrev pub applied_to : Operator → Option ℤ → Option ℤ → Option ℤ
 applied_to op None y = None
 applied_to op (Some x) None = None
-applied_to op (Some x) (Some y) = applied op x y
+applied_to op (Some x) (Some y) = operation_value op x y
 
 -- what an expression is worth at a number of jobs; each value in it is one of 64 bits
-abbrev pub value_of : ℤ → Expression → Option ℤ
-value_of n (whole z) = Some z
-value_of n jobs = Some n
-value_of n (negation e) = option_and_then (λ x. within_64 (neg_ℤ x)) (value_of n e)
-value_of n (operation op a b) = applied_to op (value_of n a) (value_of n b)
+abbrev pub worth_of : ℤ → Formula → Option ℤ
+worth_of n (whole z) = Some z
+worth_of n jobs = Some n
+worth_of n (negation e) = option_and_then (λ x. within_64 (neg_ℤ x)) (worth_of n e)
+worth_of n (operation op a b) = applied_to op (worth_of n a) (worth_of n b)
 
 pub data Kind : Type 0 where
   a_factor : Kind
@@ -38,15 +38,15 @@ pub data Kind : Type 0 where
 --   term   := factor { ("*" | "//" | "%") factor }
 --   factor := whole | "n_jobs" | "(" sum ")" | "-" factor
 -- where operators of one level bind from the left
-pub data Spells : Kind → ℕ → List Lexeme → Expression → Type 0 where
+pub data Spells : Kind → ℕ → List Lexeme → Formula → Type 0 where
   number : {depth : ℕ} {z : ℤ} → Spells a_factor depth (Whole z ∷ []) (whole z)
   name : {depth : ℕ} → Spells a_factor depth (Jobs ∷ []) jobs
-  bracket : {depth : ℕ} {ss : List Lexeme} {e : Expression} → Spells a_sum depth ss e → Spells a_factor (suc depth) (Opening ∷ (ss ++ Closing ∷ [])) e
-  minus : {depth : ℕ} {ss : List Lexeme} {e : Expression} → Spells a_factor depth ss e → Spells a_factor (suc depth) (Infix Minus ∷ ss) (negation e)
-  factor : {depth : ℕ} {ss : List Lexeme} {e : Expression} → Spells a_factor depth ss e → Spells a_term depth ss e
-  product : {depth : ℕ} {ss ts : List Lexeme} {a b : Expression} {op : Operator} → Spells a_term depth ss a → is_tight op ≡ true → Spells a_factor depth ts b → Spells a_term depth (ss ++ Infix op ∷ ts) (operation op a b)
-  term : {depth : ℕ} {ss : List Lexeme} {e : Expression} → Spells a_term depth ss e → Spells a_sum depth ss e
-  sum : {depth : ℕ} {ss ts : List Lexeme} {a b : Expression} {op : Operator} → Spells a_sum depth ss a → is_tight op ≡ false → Spells a_term depth ts b → Spells a_sum depth (ss ++ Infix op ∷ ts) (operation op a b)
+  bracket : {depth : ℕ} {ss : List Lexeme} {e : Formula} → Spells a_sum depth ss e → Spells a_factor (suc depth) (Opening ∷ (ss ++ Closing ∷ [])) e
+  minus : {depth : ℕ} {ss : List Lexeme} {e : Formula} → Spells a_factor depth ss e → Spells a_factor (suc depth) (Infix Minus ∷ ss) (negation e)
+  factor : {depth : ℕ} {ss : List Lexeme} {e : Formula} → Spells a_factor depth ss e → Spells a_term depth ss e
+  product : {depth : ℕ} {ss ts : List Lexeme} {a b : Formula} {op : Operator} → Spells a_term depth ss a → is_tight op ≡ true → Spells a_factor depth ts b → Spells a_term depth (ss ++ Infix op ∷ ts) (operation op a b)
+  term : {depth : ℕ} {ss : List Lexeme} {e : Formula} → Spells a_term depth ss e → Spells a_sum depth ss e
+  sum : {depth : ℕ} {ss ts : List Lexeme} {a b : Formula} {op : Operator} → Spells a_sum depth ss a → is_tight op ≡ false → Spells a_term depth ts b → Spells a_sum depth (ss ++ Infix op ∷ ts) (operation op a b)
 
 -- minus signs, one after the other
 abbrev pub negated : ℕ → ℤ → Option ℤ

@@ -8,7 +8,7 @@ use Rattle.jl_batch.specs.declared.parser.TheConstants.{MOST_DEPTH, LEVELS}
 use Rattle.jl_batch.specs.declared.parser.Pending.{Pending}
 use Rattle.jl_batch.specs.declared.parser.Level.{Level}
 use Rattle.jl_batch.specs.declared.parser.Reader.{Reader}
-use Rattle.jl_batch.specs.Arithmetic.{applied, is_tight}
+use Rattle.jl_batch.specs.Arithmetic.{operation_value, is_tight}
 use Rattle.jl_batch.specs.Expressions.{negated}
 
 -- a level in which nothing was read
@@ -18,7 +18,7 @@ fresh room = record { sum = None; term = None; minuses = 0; room = room }
 -- a value behind the value and the operator that wait
 abbrev pub joined : Option Pending → ℤ → Option ℤ
 joined None x = Some x
-joined (Some before) x = applied before.operator before.value x
+joined (Some before) x = operation_value before.operator before.value x
 
 -- the sum that ends with a factor's value
 abbrev pub total : Level → ℤ → Option ℤ
@@ -54,9 +54,9 @@ abbrev pub with_loose : Level → List Level → Operator → ℤ → Reader
 with_loose l outer op x = record { level = record l { sum = Some (record { value = x; operator = op }); term = None; minuses = 0 }; outer = outer; value = None }
 
 -- the sum in a bracket is a factor of the level around it
-abbrev pub closed : List Level → ℤ → Option Reader
-closed [] x = None
-closed (l ∷ outer) x = with_operand l outer x
+abbrev pub bracket_closed : List Level → ℤ → Option Reader
+bracket_closed [] x = None
+bracket_closed (l ∷ outer) x = with_operand l outer x
 
 -- behind a factor's value
 abbrev pub behind : Level → List Level → ℤ → Lexeme → Option Reader
@@ -64,7 +64,7 @@ behind l outer x (Whole n) = None
 behind l outer x Jobs = None
 behind l outer x (Infix op) = if is_tight op then option_map (with_tight l outer op) (joined l.term x) else option_map (with_loose l outer op) (total l x)
 behind l outer x Opening = None
-behind l outer x Closing = option_and_then (closed outer) (total l x)
+behind l outer x Closing = option_and_then (bracket_closed outer) (total l x)
 
 abbrev pub step_at : ℤ → Level → List Level → Option ℤ → Lexeme → Option Reader
 step_at jobs l outer None s = expecting jobs l outer s
@@ -80,14 +80,14 @@ finished_at l [] (Some x) = total l x
 finished_at l (o ∷ os) (Some x) = None
 
 -- the value at the end of the lexemes
-abbrev pub finished : Reader → Option ℤ
-finished r = finished_at r.level r.outer r.value
+abbrev pub value_at_end : Reader → Option ℤ
+value_at_end r = finished_at r.level r.outer r.value
 
 -- nothing read
 abbrev pub started : Reader
 started = record { level = fresh MOST_DEPTH; outer = []; value = None }
 
 -- the value that lexemes lead to
-abbrev pub run : ℤ → Reader → List Lexeme → Option ℤ
-run jobs r [] = finished r
-run jobs r (s ∷ ss) = option_and_then (λ r'. run jobs r' ss) (step jobs r s)
+abbrev pub read_lexemes : ℤ → Reader → List Lexeme → Option ℤ
+read_lexemes jobs r [] = value_at_end r
+read_lexemes jobs r (s ∷ ss) = option_and_then (λ r'. read_lexemes jobs r' ss) (step jobs r s)

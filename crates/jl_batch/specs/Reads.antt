@@ -6,12 +6,12 @@ use Rattle.jl_batch.specs.declared.window.Window.{Window}
 use Rattle.jl_batch.specs.declared.window.Window.TheVariants.{All}
 use Rattle.jl_batch.specs.declared.parser.Reader.{Reader}
 use Rattle.jl_batch.specs.Lexemes.{front_lexeme, without_blanks}
-use Rattle.jl_batch.specs.Parser.{step, started, finished}
+use Rattle.jl_batch.specs.Parser.{step, started, value_at_end}
 use Rattle.jl_batch.specs.Windows.{window_at, all_word}
 
 -- behind a lexeme: the end, or blanks and more lexemes
 abbrev pub value_behind : (Reader → List ℕ → Option ℤ) → List ℕ → Reader → Option ℤ
-value_behind next rest r = cond (nat_eq (length rest) 0) (finished r) (next r (without_blanks rest))
+value_behind next rest r = cond (nat_eq (length rest) 0) (value_at_end r) (next r (without_blanks rest))
 
 -- the value that the lexemes of a text lead to, of which there are at most k
 abbrev pub value_from : ℕ → ℤ → Reader → List ℕ → Option ℤ

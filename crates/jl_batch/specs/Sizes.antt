@@ -14,8 +14,8 @@ abbrev pub started : Sizing
 started = record { size = 1; smoothed = 0 }
 
 -- twice the size whose batches would take what is still short
-abbrev pub scaled : Sizing → ℕ
-scaled a = 2 * (a.size * SHORT / a.smoothed)
+abbrev pub scaled_size : Sizing → ℕ
+scaled_size a = 2 * (a.size * SHORT / a.smoothed)
 
 -- from 1 to the most
 abbrev pub within_sizes : ℕ → ℕ
@@ -24,8 +24,8 @@ within_sizes n = max 1 (min n MOST_TASKS)
 -- short batches grow, at most twofold; long ones shrink, where they have two tasks
 abbrev pub size_after : Sizing → ℕ
 size_after a =
-    if nat_lt 0 a.smoothed && nat_lt a.smoothed SHORT then within_sizes (min (2 * a.size) (scaled a))
-    else (if nat_lt LONG a.smoothed && nat_le 2 a.size then within_sizes (scaled a) else a.size)
+    if nat_lt 0 a.smoothed && nat_lt a.smoothed SHORT then within_sizes (min (2 * a.size) (scaled_size a))
+    else (if nat_lt LONG a.smoothed && nat_le 2 a.size then within_sizes (scaled_size a) else a.size)
 
 -- after the size was asked for: where it changed, nothing is known of the new one
 abbrev pub sized : Sizing → Sizing
@@ -41,6 +41,6 @@ completed_of size duration a =
     if nat_eq size a.size then record a { smoothed = smoothed_by a.smoothed (min duration LONGEST) } else a
 
 -- after a step
-abbrev pub after : Sizing → Step → Sizing
-after a Size = sized a
-after a (Completed size duration) = completed_of size duration a
+abbrev pub sizing_after : Sizing → Step → Sizing
+sizing_after a Size = sized a
+sizing_after a (Completed size duration) = completed_of size duration a

@@ -7,7 +7,7 @@ use Rattle.jl_batch.specs.declared.pre_dispatch.PreDispatchFault.TheVariants.{Ba
 use Rattle.jl_batch.specs.declared.lexer.Lexeme.{Lexeme}
 use Rattle.jl_batch.specs.declared.parser.TheConstants.{MOST_DEPTH}
 use Rattle.jl_batch.specs.Lexemes.{HasLexemes}
-use Rattle.jl_batch.specs.Expressions.{Expression, Spells, a_sum, value_of}
+use Rattle.jl_batch.specs.Expressions.{Formula, Spells, a_sum, worth_of}
 
 -- `all`
 unfoldable pub all_word : List ℕ
@@ -15,7 +15,7 @@ all_word = codes "all"
 
 -- a text is an expression in which brackets and minus signs nest at most 32 deep, worth v at this number of jobs
 abbrev pub IsWorth : List ℕ → ℕ → ℤ → Type 0
-IsWorth text jobs v = (ss : List Lexeme) × (e : Expression) × HasLexemes text ss × Spells a_sum MOST_DEPTH ss e × (value_of (pos jobs) e ≡ Some v)
+IsWorth text jobs v = (ss : List Lexeme) × (e : Formula) × HasLexemes text ss × Spells a_sum MOST_DEPTH ss e × (worth_of (pos jobs) e ≡ Some v)
 
 -- what a value asks for: one task at least, and above 1,000,000 as many
 abbrev pub window_at : ℤ → Result Window PreDispatchFault
@@ -27,6 +27,6 @@ IsAskedFor text jobs All = text ≡ all_word
 IsAskedFor text jobs (Tasks n) = (v : ℤ) × IsWorth text jobs v × (window_at v ≡ Ok (Tasks n))
 
 -- why a text asks for no window
-abbrev pub IsFaulty : List ℕ → ℕ → PreDispatchFault → Type 0
-IsFaulty text jobs BadExpression = (text ≢ all_word) × ((v : ℤ) → IsWorth text jobs v → ⊥)
-IsFaulty text jobs BelowOne = (v : ℤ) × IsWorth text jobs v × (window_at v ≡ Err BelowOne)
+abbrev pub IsWindowFault : List ℕ → ℕ → PreDispatchFault → Type 0
+IsWindowFault text jobs BadExpression = (text ≢ all_word) × ((v : ℤ) → IsWorth text jobs v → ⊥)
+IsWindowFault text jobs BelowOne = (v : ℤ) × IsWorth text jobs v × (window_at v ≡ Err BelowOne)

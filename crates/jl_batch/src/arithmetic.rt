@@ -1,6 +1,6 @@
 // The operators of an expression, in signed 64 bits.
 ghost use Rattle.std.specs.Prelude.{◌≡◌};
-ghost use Rattle.jl_batch.specs.Arithmetic.{applied, is_tight as is_tight_of};
+ghost use Rattle.jl_batch.specs.Arithmetic.{operation_value, is_tight as is_tight_of};
 
 use jl_numbers::{div_floor, rem_floor};
 
@@ -24,7 +24,7 @@ pub(crate) fn is_tight(operator: Operator) -> bool
 }
 
 pub(crate) fn apply(operator: Operator, x: i64, y: i64) -> Option<i64>
-    ensures { result ≡ applied operator x y }
+    ensures { result ≡ operation_value operator x y }
 {
     match operator {
         Operator::Plus => x.checked_add(y),

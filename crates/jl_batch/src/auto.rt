@@ -1,6 +1,6 @@
 // How many tasks make a batch.
 ghost use Rattle.std.specs.Prelude.{◌≡◌, ◌≤◌, fold, take};
-ghost use Rattle.jl_batch.specs.Sizes.{started, size_after, sized, completed_of, after};
+ghost use Rattle.jl_batch.specs.Sizes.{started, size_after, sized, completed_of, sizing_after};
 
 use std::marker::Model;
 
@@ -114,7 +114,7 @@ impl Auto {
 
 /// What is left after steps from the start: the steps folded over it, each by its formula.
 pub fn replay(steps: &[Step]) -> Auto
-    ensures { result ≡ fold after started steps.now }
+    ensures { result ≡ fold sizing_after started steps.now }
 {
     let mut sizing = Auto::new();
     for step in steps {

@@ -3,7 +3,7 @@
 ghost use Rattle.std.specs.Prelude.{◌≡◌, ◌∷◌, [], ◌==◌, pos, MatchOption, nat_lt, length, if◌then◌else◌};
 ghost use Rattle.jl_batch.specs.Expressions.{negated as negated_of};
 ghost use Rattle.jl_batch.specs.declared.lexer.Lexeme.TheVariants.{Infix, Closing};
-ghost use Rattle.jl_batch.specs.Parser.{fresh as fresh_of, joined as joined_of, total as total_of, with_operand as with_operand_of, with_minus as with_minus_of, opened as opened_of, expecting as expecting_of, behind as behind_of, step as step_of, finished, started};
+ghost use Rattle.jl_batch.specs.Parser.{fresh as fresh_of, joined as joined_of, total as total_of, with_operand as with_operand_of, with_minus as with_minus_of, opened as opened_of, expecting as expecting_of, behind as behind_of, step as step_of, value_at_end, started};
 
 use crate::arithmetic::{Operator, apply, is_tight};
 use crate::lexer::Lexeme;
@@ -269,7 +269,7 @@ impl Reader {
 
     /// The value of what was read, if it is whole.
     pub(crate) fn finish(self) -> Option<i64>
-        ensures { result ≡ finished self }
+        ensures { result ≡ value_at_end self }
     {
         let x = self.value?;
         if !self.outer.is_empty() {

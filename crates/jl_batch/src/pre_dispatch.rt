@@ -3,10 +3,10 @@ ghost use Rattle.std.specs.Prelude.{◌≡◌, ◌↔◌, List, ℤ, pos, IsTrue
 ghost use Rattle.jl_batch.specs.declared.lexer.Lexeme.{Lexeme};
 ghost use Rattle.jl_batch.specs.declared.window.Window.TheVariants.{All};
 ghost use Rattle.jl_batch.specs.Lexemes.{HasLexemes};
-ghost use Rattle.jl_batch.specs.Parser.{run, started};
+ghost use Rattle.jl_batch.specs.Parser.{read_lexemes, started};
 ghost use Rattle.std.specs.Result.{result_ok};
 ghost use Rattle.jl_batch.specs.Reads.{value_in, window_of};
-ghost use Rattle.jl_batch.specs.Windows.{IsWorth, IsAskedFor, IsFaulty, window_at as window_at_of, all_word};
+ghost use Rattle.jl_batch.specs.Windows.{IsWorth, IsAskedFor, IsWindowFault, window_at as window_at_of, all_word};
 
 use crate::lexer::{front_lexeme, without_blanks};
 use crate::parser::Reader;
@@ -28,9 +28,9 @@ pub enum PreDispatchFault {
 // The value that the lexemes of a text lead to.
 fn run_text(text: &[u8], jobs: u32) -> Option<i64>
     ensures some { IfSome result (λ v. (ss : List Lexeme) × HasLexemes text.now ss
-        × (run (pos jobs) started ss ≡ Some v)) }
+        × (read_lexemes (pos jobs) started ss ≡ Some v)) }
     ensures only { (ss : List Lexeme) → HasLexemes text.now ss
-        → result ≡ run (pos jobs) started ss }
+        → result ≡ read_lexemes (pos jobs) started ss }
     ensures reads { result ≡ value_in text.now jobs }
 {
     let mut reader = Reader::new();
@@ -76,7 +76,7 @@ fn is_all(text: &[u8]) -> bool
 /// deep. More than 1,000,000 tasks act as 1,000,000.
 pub fn read_pre_dispatch(text: &str, jobs: u32) -> Result<Window, PreDispatchFault>
     ensures window { MatchResult result (λ window. IsAskedFor text.now jobs window)
-        (λ fault. IsFaulty text.now jobs fault) }
+        (λ fault. IsWindowFault text.now jobs fault) }
     ensures all { text.now ≡ all_word → result ≡ Ok All }
     ensures value { (v : ℤ) → IsWorth text.now jobs v → result ≡ window_at_of v }
     ensures reads { result_ok result ≡ window_of text.now jobs }
