@@ -1,4 +1,5 @@
-//! How many jobs there are, how many tasks may be in flight, and how many make a batch. No call takes memory.
+//! How many jobs there are, how many tasks may be in flight, and how many make a batch. No call
+//! takes memory.
 #![tactic(auto)]
 
 mod arithmetic;

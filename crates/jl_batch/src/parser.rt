@@ -1,4 +1,5 @@
-// The parser of expressions, which reads lexeme by lexeme (shift and reduce), with the brackets that
+// The parser of expressions, which reads lexeme by lexeme (shift and reduce), with the brackets
+// that
 // are open on a stack of their own.
 ghost use Rattle.std.specs.Prelude.{◌≡◌, ◌∷◌, [], ◌==◌, pos, MatchOption, nat_lt, length, if◌then◌else◌};
 ghost use Rattle.jl_batch.specs.Expressions.{negated as negated_of};

@@ -71,8 +71,10 @@ fn is_all(text: &[u8]) -> bool
 }
 
 /// The window that a text asks for: `all`, or how many tasks. The text is an expression of whole
-/// numbers of at most 18 digits and `n_jobs` with Python's `+`, `-`, `*`, `//`, `%` and brackets, in
-/// signed 64 bits. Blanks may stand between its lexemes, and brackets and minus signs nest at most 32
+/// numbers of at most 18 digits and `n_jobs` with Python's `+`, `-`, `*`, `//`, `%` and brackets,
+/// in
+/// signed 64 bits. Blanks may stand between its lexemes, and brackets and minus signs nest at most
+/// 32
 /// deep. More than 1,000,000 tasks act as 1,000,000.
 pub fn read_pre_dispatch(text: &str, jobs: u32) -> Result<Window, PreDispatchFault>
     ensures window { MatchResult result (λ window. IsAskedFor text.now jobs window)

@@ -41,8 +41,10 @@ impl MemFolder {
     }
 
     pub(crate) fn put_file(&mut self, path: &Path) -> Created
-        ensures acts { Acts (result ≡ Created.Failed) (CreatesFile path.now (opens_of self.new.opens.items) result) self.old self.new }
-        ensures opens { CreatedOpens result (opens_of self.old.opens.items) (opens_of self.new.opens.items) }
+        ensures acts { Acts (result ≡ Created.Failed)
+            (CreatesFile path.now (opens_of self.new.opens.items) result) self.old self.new }
+        ensures opens { CreatedOpens result (opens_of self.old.opens.items)
+            (opens_of self.new.opens.items) }
         ensures least { IsTold self.old → TakesLeast self.new result }
         ensures fine { result ≢ Created.Failed }
     {
@@ -70,7 +72,9 @@ impl MemFolder {
 
     pub(crate) fn add_bytes(&mut self, number: FileNo, bytes: &[u8]) -> Appended
         requires { IsMade (opens_of self.old.opens.items) number.0 }
-        ensures acts { Acts (result ≡ Appended.Failed) (AppendsBytes number.0 bytes.now (opens_of self.old.opens.items) result) self.old self.new }
+        ensures acts { Acts (result ≡ Appended.Failed)
+            (AppendsBytes number.0 bytes.now (opens_of self.old.opens.items) result) self.old
+            self.new }
         ensures opens { self.new.opens.items ≡ self.old.opens.items }
         ensures whole { AppendsAll (length bytes.now) result }
         ensures fine { result ≢ Appended.Failed }
@@ -84,7 +88,8 @@ impl MemFolder {
 
     pub(crate) fn move_file(&mut self, from: &Path, to: &Path) -> Renamed
         requires { from.now ≢ to.now }
-        ensures acts { Acts (result ≡ Renamed.Failed) (RenamesFile from.now to.now result) self.old self.new }
+        ensures acts { Acts (result ≡ Renamed.Failed) (RenamesFile from.now to.now result) self.old
+            self.new }
         ensures opens { self.new.opens.items ≡ self.old.opens.items }
         ensures fine { result ≢ Renamed.Failed }
     {
@@ -110,7 +115,8 @@ impl MemFolder {
     }
 
     pub(crate) fn drop_file(&mut self, path: &Path) -> Removed
-        ensures acts { Acts (result ≡ Removed.Failed) (RemovesFile path.now result) self.old self.new }
+        ensures acts { Acts (result ≡ Removed.Failed) (RemovesFile path.now result) self.old
+            self.new }
         ensures opens { self.new.opens.items ≡ self.old.opens.items }
         ensures fine { result ≢ Removed.Failed }
     {
@@ -127,7 +133,8 @@ impl MemFolder {
     }
 
     pub(crate) fn drop_dir(&mut self, path: &Path) -> RemovedDir
-        ensures acts { Acts (result ≡ RemovedDir.Failed) (RemovesFolder path.now result) self.old self.new }
+        ensures acts { Acts (result ≡ RemovedDir.Failed) (RemovesFolder path.now result) self.old
+            self.new }
         ensures opens { self.new.opens.items ≡ self.old.opens.items }
         ensures fine { result ≢ RemovedDir.Failed }
     {
@@ -150,8 +157,10 @@ impl MemFolder {
     }
 
     pub(crate) fn open_named(&mut self, path: &Path) -> Opened
-        ensures acts { Acts (result ≡ Opened.Failed) (OpensFile path.now (opens_of self.new.opens.items) result) self.old self.new }
-        ensures opens { OpenedOpens result (opens_of self.old.opens.items) (opens_of self.new.opens.items) }
+        ensures acts { Acts (result ≡ Opened.Failed)
+            (OpensFile path.now (opens_of self.new.opens.items) result) self.old self.new }
+        ensures opens { OpenedOpens result (opens_of self.old.opens.items)
+            (opens_of self.new.opens.items) }
         ensures fine { result ≢ Opened.Failed }
     {
         let Some(node) = self.disk.file_at(path.parts()) else {
@@ -166,7 +175,9 @@ impl MemFolder {
     pub(crate) fn read_out(&mut self, number: FileNo, at: u64, buf: &mut [u8]) -> ReadAt
         requires is_open { IsOpen (opens_of self.old.opens.items) number.0 }
         requires room { 0 < length buf.old }
-        ensures acts { Acts (result ≡ ReadAt.Failed) (ReadsBytes number.0 at buf.old buf.new (opens_of self.old.opens.items) result) self.old self.new }
+        ensures acts { Acts (result ≡ ReadAt.Failed)
+            (ReadsBytes number.0 at buf.old buf.new (opens_of self.old.opens.items) result) self.old
+            self.new }
         ensures opens { self.new.opens.items ≡ self.old.opens.items }
         ensures within { ReadsWithin (length buf.old) result }
         ensures whole { IsTold self.old → ReadsAll self.new number.0 at (length buf.old) result }

@@ -23,8 +23,10 @@ impl Folder for MemFolder {
     ghost lawful = { λ m told. told_history m told };
 
     fn make_dir(&mut self, path: &Path) -> MadeDir
-        ensures call { IsTold self.old → Call (folder_view self.old) (folder_view self.new) (MakesDir path.now result) }
-        ensures frame { FolderAnswers (result ≡ MadeDir.Failed) (folder_view self.old) (folder_view self.new) }
+        ensures call { IsTold self.old
+            → Call (folder_view self.old) (folder_view self.new) (MakesDir path.now result) }
+        ensures frame { FolderAnswers (result ≡ MadeDir.Failed) (folder_view self.old)
+            (folder_view self.new) }
         ensures plays { PlaysScript self.old self.new }
         ensures obeys { IsTold self.old → Obeys (result ≡ MadeDir.Failed) self.old self.new }
     {
@@ -35,9 +37,13 @@ impl Folder for MemFolder {
     }
 
     fn create(&mut self, path: &Path) -> Created
-        ensures call { IsTold self.old → Call (folder_view self.old) (folder_view self.new) (CreatesFile path.now (folder_view self.new).opens result) }
-        ensures opens { CreatedOpens result (folder_view self.old).opens (folder_view self.new).opens }
-        ensures frame { FolderTurns (result ≡ Created.Failed) (folder_view self.old) (folder_view self.new) }
+        ensures call { IsTold self.old
+            → Call (folder_view self.old) (folder_view self.new)
+            (CreatesFile path.now (folder_view self.new).opens result) }
+        ensures opens { CreatedOpens result (folder_view self.old).opens
+            (folder_view self.new).opens }
+        ensures frame { FolderTurns (result ≡ Created.Failed) (folder_view self.old)
+            (folder_view self.new) }
         ensures plays { PlaysScript self.old self.new }
         ensures obeys { IsTold self.old → Obeys (result ≡ Created.Failed) self.old self.new }
         ensures least { IsTold self.old → TakesLeast self.new result }
@@ -50,9 +56,12 @@ impl Folder for MemFolder {
 
     fn append(&mut self, number: FileNo, bytes: &[u8]) -> Appended
         requires { IsMade (folder_view self.old).opens number.0 }
-        ensures call { IsTold self.old → Call (folder_view self.old) (folder_view self.new) (AppendsBytes number.0 bytes.now (folder_view self.old).opens result) }
+        ensures call { IsTold self.old
+            → Call (folder_view self.old) (folder_view self.new)
+            (AppendsBytes number.0 bytes.now (folder_view self.old).opens result) }
         ensures some { AppendsSome (length bytes.now) result }
-        ensures frame { FolderAnswers (result ≡ Appended.Failed) (folder_view self.old) (folder_view self.new) }
+        ensures frame { FolderAnswers (result ≡ Appended.Failed) (folder_view self.old)
+            (folder_view self.new) }
         ensures plays { PlaysScript self.old self.new }
         ensures obeys { IsTold self.old → ObeysAppend number.0 bytes.now result self.old self.new }
         ensures whole { AppendsAll (length bytes.now) result }
@@ -68,8 +77,11 @@ impl Folder for MemFolder {
 
     fn rename(&mut self, from: &Path, to: &Path) -> Renamed
         requires { from.now ≢ to.now }
-        ensures call { IsTold self.old → Call (folder_view self.old) (folder_view self.new) (RenamesFile from.now to.now result) }
-        ensures frame { FolderAnswers (result ≡ Renamed.Failed) (folder_view self.old) (folder_view self.new) }
+        ensures call { IsTold self.old
+            → Call (folder_view self.old) (folder_view self.new)
+            (RenamesFile from.now to.now result) }
+        ensures frame { FolderAnswers (result ≡ Renamed.Failed) (folder_view self.old)
+            (folder_view self.new) }
         ensures plays { PlaysScript self.old self.new }
         ensures obeys { IsTold self.old → Obeys (result ≡ Renamed.Failed) self.old self.new }
     {
@@ -80,8 +92,10 @@ impl Folder for MemFolder {
     }
 
     fn remove(&mut self, path: &Path) -> Removed
-        ensures call { IsTold self.old → Call (folder_view self.old) (folder_view self.new) (RemovesFile path.now result) }
-        ensures frame { FolderAnswers (result ≡ Removed.Failed) (folder_view self.old) (folder_view self.new) }
+        ensures call { IsTold self.old
+            → Call (folder_view self.old) (folder_view self.new) (RemovesFile path.now result) }
+        ensures frame { FolderAnswers (result ≡ Removed.Failed) (folder_view self.old)
+            (folder_view self.new) }
         ensures plays { PlaysScript self.old self.new }
         ensures obeys { IsTold self.old → Obeys (result ≡ Removed.Failed) self.old self.new }
     {
@@ -92,8 +106,10 @@ impl Folder for MemFolder {
     }
 
     fn remove_dir(&mut self, path: &Path) -> RemovedDir
-        ensures call { IsTold self.old → Call (folder_view self.old) (folder_view self.new) (RemovesFolder path.now result) }
-        ensures frame { FolderAnswers (result ≡ RemovedDir.Failed) (folder_view self.old) (folder_view self.new) }
+        ensures call { IsTold self.old
+            → Call (folder_view self.old) (folder_view self.new) (RemovesFolder path.now result) }
+        ensures frame { FolderAnswers (result ≡ RemovedDir.Failed) (folder_view self.old)
+            (folder_view self.new) }
         ensures plays { PlaysScript self.old self.new }
         ensures obeys { IsTold self.old → Obeys (result ≡ RemovedDir.Failed) self.old self.new }
     {
@@ -104,9 +120,13 @@ impl Folder for MemFolder {
     }
 
     fn open_file(&mut self, path: &Path) -> Opened
-        ensures call { IsTold self.old → Call (folder_view self.old) (folder_view self.new) (OpensFile path.now (folder_view self.new).opens result) }
-        ensures opens { OpenedOpens result (folder_view self.old).opens (folder_view self.new).opens }
-        ensures frame { FolderTurns (result ≡ Opened.Failed) (folder_view self.old) (folder_view self.new) }
+        ensures call { IsTold self.old
+            → Call (folder_view self.old) (folder_view self.new)
+            (OpensFile path.now (folder_view self.new).opens result) }
+        ensures opens { OpenedOpens result (folder_view self.old).opens
+            (folder_view self.new).opens }
+        ensures frame { FolderTurns (result ≡ Opened.Failed) (folder_view self.old)
+            (folder_view self.new) }
         ensures plays { PlaysScript self.old self.new }
         ensures obeys { IsTold self.old → Obeys (result ≡ Opened.Failed) self.old self.new }
     {
@@ -119,9 +139,12 @@ impl Folder for MemFolder {
     fn read_at(&mut self, number: FileNo, at: u64, buf: &mut [u8]) -> ReadAt
         requires is_open { IsOpen (folder_view self.old).opens number.0 }
         requires room { 0 < length buf.old }
-        ensures call { IsTold self.old → Call (folder_view self.old) (folder_view self.new) (ReadsBytes number.0 at buf.old buf.new (folder_view self.old).opens result) }
+        ensures call { IsTold self.old
+            → Call (folder_view self.old) (folder_view self.new)
+            (ReadsBytes number.0 at buf.old buf.new (folder_view self.old).opens result) }
         ensures within { ReadsWithin (length buf.old) result }
-        ensures frame { FolderAnswers (result ≡ ReadAt.Failed) (folder_view self.old) (folder_view self.new) }
+        ensures frame { FolderAnswers (result ≡ ReadAt.Failed) (folder_view self.old)
+            (folder_view self.new) }
         ensures plays { PlaysScript self.old self.new }
         ensures obeys { IsTold self.old → Obeys (result ≡ ReadAt.Failed) self.old self.new }
         ensures whole { IsTold self.old → ReadsAll self.new number.0 at (length buf.old) result }
@@ -133,8 +156,10 @@ impl Folder for MemFolder {
     }
 
     fn size(&mut self, path: &Path) -> SizeOf
-        ensures call { IsTold self.old → Call (folder_view self.old) (folder_view self.new) (SizesFile path.now result) }
-        ensures frame { FolderAnswers (result ≡ SizeOf.Failed) (folder_view self.old) (folder_view self.new) }
+        ensures call { IsTold self.old
+            → Call (folder_view self.old) (folder_view self.new) (SizesFile path.now result) }
+        ensures frame { FolderAnswers (result ≡ SizeOf.Failed) (folder_view self.old)
+            (folder_view self.new) }
         ensures plays { PlaysScript self.old self.new }
         ensures obeys { IsTold self.old → Obeys (result ≡ SizeOf.Failed) self.old self.new }
     {
@@ -146,9 +171,12 @@ impl Folder for MemFolder {
 
     fn list(&mut self, path: &Path) -> Listed
         ensures waits { IsTold self.old → Waits (folder_view self.old) (folder_view self.new) }
-        ensures names { IsTold self.old → ListsFolder path.now result (state (folder_view self.old)) (moved (folder_view self.old) (folder_view self.new)) }
+        ensures names { IsTold self.old
+            → ListsFolder path.now result (state (folder_view self.old))
+            (moved (folder_view self.old) (folder_view self.new)) }
         ensures parts { ListsParts result }
-        ensures frame { FolderAnswers (result ≡ Listed.Failed) (folder_view self.old) (folder_view self.new) }
+        ensures frame { FolderAnswers (result ≡ Listed.Failed) (folder_view self.old)
+            (folder_view self.new) }
         ensures plays { PlaysScript self.old self.new }
         ensures obeys { IsTold self.old → Obeys (result ≡ Listed.Failed) self.old self.new }
     {
@@ -159,8 +187,10 @@ impl Folder for MemFolder {
     }
 
     fn close(&mut self, number: FileNo)
-        ensures call { IsTold self.old → Call (folder_view self.old) (folder_view self.new) (NoMove) }
-        ensures opens { (folder_view self.new).opens ≡ closed (folder_view self.old).opens number.0 }
+        ensures call { IsTold self.old
+            → Call (folder_view self.old) (folder_view self.new) (NoMove) }
+        ensures opens { (folder_view self.new).opens ≡ closed (folder_view self.old).opens
+            number.0 }
         ensures frame { FolderTurns (⊥) (folder_view self.old) (folder_view self.new) }
         ensures plays { PlaysScript self.old self.new }
     {

@@ -45,8 +45,10 @@ fn is_folder(place: Place) -> bool
 
 /// The names below a folder, each once.
 pub fn children(alloc: Global, places: &[PlaceEntry], path: &Path) -> Result<Vec<Name>, AllocError>
-    ensures each { IfOk result (λ v. (name : Name) → Contains v.items name → StandsIn places.now path.now name) }
-    ensures every { IfOk result (λ v. (name : Name) → StandsIn places.now path.now name → Contains v.items name) }
+    ensures each { IfOk result
+        (λ v. (name : Name) → Contains v.items name → StandsIn places.now path.now name) }
+    ensures every { IfOk result
+        (λ v. (name : Name) → StandsIn places.now path.now name → Contains v.items name) }
     ensures parts { IfOk result (λ v. All (λ n. IsTrue (is_part n.part)) v.items) }
     ensures once { IfOk result (λ v. IsDistinct bytes_eq (map (λ n. n.part) v.items)) }
 {

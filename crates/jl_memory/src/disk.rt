@@ -1,4 +1,5 @@
-// A folder in memory: how it began, the moves made, and tables that answer for the state they leave.
+// A folder in memory: how it began, the moves made, and tables that answer for the state they
+// leave.
 ghost use Rattle.std.specs.Prelude.{◌≡◌, ◌++◌, [], ◌∷◌, List, ℕ, true, false, OnOk, OnErr, IfSome, IfNone, IfOk, map, Some};
 ghost use Rattle.jl_folder.specs.State.{State, Allowed, after, place_at, has_parent, is_file, is_folder, IsState};
 ghost use Rattle.std.specs.List.{enumerate_from};
@@ -31,8 +32,11 @@ fn apply_create(
     path: &Path,
     number: u64,
 ) -> Result<(), AllocError>
-    ensures ok { OnOk result ((s : State) → Agrees s places.old.items nodes.old.items → Allowed s (Move.Create path.now number) → Agrees (after s (token.now, Move.Create path.now number)) places.new.items nodes.new.items) }
-    ensures err { OnErr result ((s : State) → Agrees s places.old.items nodes.old.items → Agrees s places.new.items nodes.new.items) }
+    ensures ok { OnOk result ((s : State) → Agrees s places.old.items nodes.old.items → Allowed s
+        (Move.Create path.now number) → Agrees (after s (token.now, Move.Create path.now number))
+        places.new.items nodes.new.items) }
+    ensures err { OnErr result ((s : State) → Agrees s places.old.items nodes.old.items → Agrees s
+        places.new.items nodes.new.items) }
 {
     let node = Node {
         bytes: Bytes::new(Vec::new(alloc)),
@@ -53,8 +57,11 @@ fn apply_rename(
     from: &Path,
     to: &Path,
 ) -> Result<(), AllocError>
-    ensures ok { OnOk result ((s : State) (t : List ℕ) → Agrees s places.old.items nodes.old.items → Allowed s (Move.Rename from.now to.now) → Agrees (after s (t, Move.Rename from.now to.now)) places.new.items nodes.new.items) }
-    ensures err { OnErr result ((s : State) → Agrees s places.old.items nodes.old.items → Agrees s places.new.items nodes.new.items) }
+    ensures ok { OnOk result ((s : State) (t : List ℕ) → Agrees s places.old.items nodes.old.items →
+        Allowed s (Move.Rename from.now to.now) → Agrees (after s (t, Move.Rename from.now to.now))
+        places.new.items nodes.new.items) }
+    ensures err { OnErr result ((s : State) → Agrees s places.old.items nodes.old.items → Agrees s
+        places.new.items nodes.new.items) }
 {
     if let Some(Place::File(number)) = place_of(places, from.parts()) {
         set_place(places, to, Some(Place::File(number)))?;
@@ -72,8 +79,10 @@ fn apply(
     token: &Token,
     change: &Move,
 ) -> Result<(), AllocError>
-    ensures ok { OnOk result ((s : State) → Agrees s places.old.items nodes.old.items → Allowed s change.now → Agrees (after s (token.now, change.now)) places.new.items nodes.new.items) }
-    ensures err { OnErr result ((s : State) → Agrees s places.old.items nodes.old.items → Agrees s places.new.items nodes.new.items) }
+    ensures ok { OnOk result ((s : State) → Agrees s places.old.items nodes.old.items → Allowed s
+        change.now → Agrees (after s (token.now, change.now)) places.new.items nodes.new.items) }
+    ensures err { OnErr result ((s : State) → Agrees s places.old.items nodes.old.items → Agrees s
+        places.new.items nodes.new.items) }
 {
     match change {
         Move::MakeDir(path) => {
@@ -160,8 +169,10 @@ impl Disk {
     }
 
     pub fn file_at(&self, parts: &[Text]) -> Option<u64>
-        ensures some { IfSome result (λ n. IsConsistent self.now → place_at (disk_state self.now) parts.now ≡ Some (Place.File n)) }
-        ensures none { IfNone result (IsConsistent self.now → is_file (disk_state self.now) parts.now ≡ false) }
+        ensures some { IfSome result (λ n. IsConsistent self.now → place_at (disk_state self.now)
+            parts.now ≡ Some (Place.File n)) }
+        ensures none { IfNone result
+            (IsConsistent self.now → is_file (disk_state self.now) parts.now ≡ false) }
     {
         match self.place(parts) {
             Some(Place::File(n)) => Some(n),
@@ -198,8 +209,10 @@ impl Disk {
     }
 
     fn allows_rename(&self, from: &Path, to: &Path) -> bool
-        ensures yes { result ≡ true → IsConsistent self.now → Allowed (disk_state self.now) (Move.Rename from.now to.now) }
-        ensures no { result ≡ false → IsConsistent self.now → Allowed (disk_state self.now) (Move.Rename from.now to.now) → ⊥ }
+        ensures yes { result ≡ true → IsConsistent self.now
+            → Allowed (disk_state self.now) (Move.Rename from.now to.now) }
+        ensures no { result ≡ false → IsConsistent self.now
+            → Allowed (disk_state self.now) (Move.Rename from.now to.now) → ⊥ }
     {
         if *from == *to {
             return false;
@@ -217,8 +230,10 @@ impl Disk {
     }
 
     fn allows_remove_dir(&self, path: &Path) -> bool
-        ensures yes { result ≡ true → IsConsistent self.now → Allowed (disk_state self.now) (Move.RemoveDir path.now) }
-        ensures no { result ≡ false → IsConsistent self.now → Allowed (disk_state self.now) (Move.RemoveDir path.now) → ⊥ }
+        ensures yes { result ≡ true → IsConsistent self.now
+            → Allowed (disk_state self.now) (Move.RemoveDir path.now) }
+        ensures no { result ≡ false → IsConsistent self.now
+            → Allowed (disk_state self.now) (Move.RemoveDir path.now) → ⊥ }
     {
         if !self.is_folder(path.parts()) {
             return false;
@@ -234,8 +249,10 @@ impl Disk {
 
     /// Whether the move may be made.
     pub fn allows(&self, change: &Move) -> bool
-        ensures yes { result ≡ true → IsConsistent self.now → Allowed (disk_state self.now) change.now }
-        ensures no { result ≡ false → IsConsistent self.now → Allowed (disk_state self.now) change.now → ⊥ }
+        ensures yes { result ≡ true → IsConsistent self.now
+            → Allowed (disk_state self.now) change.now }
+        ensures no { result ≡ false → IsConsistent self.now
+            → Allowed (disk_state self.now) change.now → ⊥ }
     {
         match change {
             Move::MakeDir(path) => self.place(path.parts()).is_none() && self.has_parent(path),
@@ -253,9 +270,11 @@ impl Disk {
 
     /// Makes a move that is allowed, or leaves all as it is.
     pub fn make(&mut self, token: Token, change: Move) -> Result<(), AllocError>
-        ensures ok { OnOk result (IsConsistent self.old → Allowed (disk_state self.old) change → IsConsistent self.new) }
+        ensures ok { OnOk result
+            (IsConsistent self.old → Allowed (disk_state self.old) change → IsConsistent self.new) }
         ensures err { OnErr result (IsConsistent self.old → IsConsistent self.new) }
-        ensures made { OnOk result (self.new.trace.items ≡ self.old.trace.items ++ (token, change) ∷ []) }
+        ensures made { OnOk result
+            (self.new.trace.items ≡ self.old.trace.items ++ (token, change) ∷ []) }
         ensures kept { OnErr result (self.new.trace.items ≡ self.old.trace.items) }
         ensures start { self.new.start ≡ self.old.start }
         ensures unmade { self.new.unmade ≡ self.old.unmade }

@@ -1,4 +1,5 @@
-// A folder in memory, in which others move between the calls: its making, what it tells, and the steps of its calls.
+// A folder in memory, in which others move between the calls: its making, what it tells, and the
+// steps of its calls.
 ghost use Rattle.std.specs.Prelude.{◌≡◌, ◌≤◌, [], true, false, length, take, OnOk, OnErr, IfOk, IfSome, All, ◌⊎◌};
 ghost use Rattle.std.specs.List.{flat_map};
 ghost use Rattle.std.specs.Option.{option_copied};
@@ -19,7 +20,9 @@ use jl_folder::{Appended, FileNo, Move, OpenFile, Place};
 use jl_text::{Bytes, Path, Token};
 use std::alloc::{AllocError, Global};
 
-/// A folder in memory, which tells all. The moves of others under a number are made before its call of that number, counted from 0; one that isn't allowed at its turn is left out, and so is one for which there is no memory, which is counted.
+/// A folder in memory, which tells all. The moves of others under a number are made before its call
+/// of that number, counted from 0; one that isn't allowed at its turn is left out, and so is one
+/// for which there is no memory, which is counted.
 #[derive(Drop)]
 pub struct MemFolder {
     pub(crate) alloc: Global,
@@ -36,7 +39,8 @@ pub struct MemFolder {
 }
 
 impl MemFolder {
-    /// A folder that begins as the tree. The calls in `failing` fail, and make no move; `close` closes all the same.
+    /// A folder that begins as the tree. The calls in `failing` fail, and make no move; `close`
+    /// closes all the same.
     pub fn new(
         alloc: Global,
         token: Token,
@@ -48,12 +52,15 @@ impl MemFolder {
         requires start { IsState (state_of start) }
         requires foreign { All (λ o. IsForeign token o.1.items) others.items }
         ensures told { IfOk result IsTold }
-        ensures history { IfOk result (λ m. mem_history m ≡ record { start = state_of start; trace = [] }) }
+        ensures history { IfOk result
+            (λ m. mem_history m ≡ record { start = state_of start; trace = [] }) }
         ensures token { IfOk result (λ m. m.token ≡ token) }
         ensures opens { IfOk result (λ m. m.opens.items ≡ []) }
         ensures counts { IfOk result (λ m. (m.faults ≡ 0) × (m.disk.unmade ≡ 0) × (m.begun ≡ 0)) }
-        ensures named { IfOk result (λ m. m.named.items ≡ flat_map (λ o. named_in o.1.items) others.items) }
-        ensures script { IfOk result (λ m. (m.others ≡ others) × (m.failing ≡ failing) × (m.stop ≡ stop) × (m.calls ≡ 0)) }
+        ensures named { IfOk result
+            (λ m. m.named.items ≡ flat_map (λ o. named_in o.1.items) others.items) }
+        ensures script { IfOk result
+            (λ m. (m.others ≡ others) × (m.failing ≡ failing) × (m.stop ≡ stop) × (m.calls ≡ 0)) }
     {
         let named = numbers_named(alloc, others.as_slice())?;
         let disk = Disk::new(alloc, start)?;
@@ -85,9 +92,12 @@ impl MemFolder {
         ensures history { IfOk result (λ m. mem_history m ≡ mem_history self) }
         ensures token { IfOk result (λ m. m.token ≡ token) }
         ensures opens { IfOk result (λ m. m.opens.items ≡ []) }
-        ensures counts { IfOk result (λ m. (m.faults ≡ 0) × (m.disk.unmade ≡ self.disk.unmade) × (m.begun ≡ length self.disk.trace.items)) }
-        ensures named { IfOk result (λ m. m.named.items ≡ flat_map (λ o. named_in o.1.items) others.items) }
-        ensures script { IfOk result (λ m. (m.others ≡ others) × (m.failing ≡ failing) × (m.stop ≡ stop) × (m.calls ≡ 0)) }
+        ensures counts { IfOk result (λ m. (m.faults ≡ 0) × (m.disk.unmade ≡ self.disk.unmade)
+            × (m.begun ≡ length self.disk.trace.items)) }
+        ensures named { IfOk result
+            (λ m. m.named.items ≡ flat_map (λ o. named_in o.1.items) others.items) }
+        ensures script { IfOk result
+            (λ m. (m.others ≡ others) × (m.failing ≡ failing) × (m.stop ≡ stop) × (m.calls ≡ 0)) }
     {
         let alloc = self.alloc;
         let disk = self.disk;
@@ -146,7 +156,8 @@ impl MemFolder {
         self.faults
     }
 
-    /// How many moves of others, which were allowed, were left out for want of memory, up to the last value of a count.
+    /// How many moves of others, which were allowed, were left out for want of memory, up to the
+    /// last value of a count.
     pub fn unmade(&self) -> u64
         ensures { result ≡ self.now.disk.unmade }
     {
@@ -248,9 +259,12 @@ impl MemFolder {
     // An append at which the run is cut off, or one after that.
     pub(crate) fn tear(&mut self, number: FileNo, bytes: &[u8]) -> Appended
         requires { IsMade (opens_of self.old.opens.items) number.0 }
-        ensures acts { Acts (result ≡ Appended.Failed) (AppendsBytes number.0 bytes.now (opens_of self.old.opens.items) result) self.old self.new }
+        ensures acts { Acts (result ≡ Appended.Failed)
+            (AppendsBytes number.0 bytes.now (opens_of self.old.opens.items) result) self.old
+            self.new }
         ensures opens { self.new.opens.items ≡ self.old.opens.items }
-        ensures cut { CutsAppend self.old self.new number.0 bytes.now result (torn_of self.old (length bytes.now)) }
+        ensures cut { CutsAppend self.old self.new number.0 bytes.now result
+            (torn_of self.old (length bytes.now)) }
         ensures some { (result ≡ Appended.Failed) ⊎ (result ≡ Appended.NoMemory) }
     {
         let Some(count) = self.torn_count(bytes.len()) else {

@@ -17,7 +17,8 @@ pub fn file_of(opens: &[Option<OpenFile>], number: FileNo) -> Option<OpenFile>
 
 // Opens a file under a new number.
 pub fn open_new(opens: &mut Vec<Option<OpenFile>>, file: OpenFile) -> Result<FileNo, AllocError>
-    ensures ok { IfOk result (λ number. (opens_of opens.old.items number.0 ≡ None) × (opens_of opens.new.items ≡ put_open (opens_of opens.old.items) number.0 file)) }
+    ensures ok { IfOk result (λ number. (opens_of opens.old.items number.0 ≡ None)
+        × (opens_of opens.new.items ≡ put_open (opens_of opens.old.items) number.0 file)) }
     ensures err { OnErr result (opens.new.items ≡ opens.old.items) }
 {
     let number = FileNo(opens.len() as u64);

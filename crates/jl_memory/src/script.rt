@@ -9,7 +9,8 @@ use crate::tables::{NodeEntry, node_of};
 use jl_folder::{Move, Token};
 use std::alloc::{AllocError, Global};
 
-/// Where a run is cut off: once it made `moves` moves of its own, an append that would come next adds only its first `torn` bytes, and every call from there fails.
+/// Where a run is cut off: once it made `moves` moves of its own, an append that would come next
+/// adds only its first `torn` bytes, and every call from there fails.
 #[derive(Clone, Copy, Debug, PartialEq, Eq)]
 pub struct Stop {
     pub moves: u64,

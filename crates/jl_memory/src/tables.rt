@@ -27,7 +27,9 @@ pub fn place_of(places: &[PlaceEntry], parts: &[Text]) -> Option<Place>
 // Says it in the first entry with this path, if there is one.
 fn set_first(places: &mut Vec<PlaceEntry>, path: &Path, what: Option<Place>) -> bool
     ensures set { result ≡ true → places.new.items ≡ with_place places.old.items path.now what }
-    ensures none { result ≡ false → (places.new.items ≡ places.old.items) × (with_place places.old.items path.now what ≡ places.old.items ++ (path.now, what) ∷ []) }
+    ensures none { result ≡ false
+        → (places.new.items ≡ places.old.items)
+        × (with_place places.old.items path.now what ≡ places.old.items ++ (path.now, what) ∷ []) }
 {
     for i in 0..places.len() {
         if places[i].0 == *path {
@@ -43,7 +45,8 @@ pub fn set_place(
     path: &Path,
     what: Option<Place>,
 ) -> Result<(), AllocError>
-    ensures ok { OnOk result ((q : PathView) → found places.new.items q ≡ cond (path_eq q path.now) what (found places.old.items q)) }
+    ensures ok { OnOk result ((q : PathView) → found places.new.items q ≡ cond (path_eq q path.now)
+        what (found places.old.items q)) }
     ensures err { OnErr result (places.new.items ≡ places.old.items) }
 {
     let copy = path.copy()?;
@@ -54,7 +57,8 @@ pub fn set_place(
 }
 
 pub fn clear_place(places: &mut Vec<PlaceEntry>, path: &Path)
-    ensures { (q : PathView) → found places.new.items q ≡ cond (path_eq q path.now) None (found places.old.items q) }
+    ensures { (q : PathView)
+        → found places.new.items q ≡ cond (path_eq q path.now) None (found places.old.items q) }
 {
     let _set = set_first(places, path, None);
 }
@@ -71,7 +75,9 @@ pub fn node_of(nodes: &[NodeEntry], number: u64) -> Option<&Node>
 }
 
 pub fn freeze_node(nodes: &mut Vec<NodeEntry>, number: u64)
-    ensures { (k : ℕ) → found_node nodes.new.items k ≡ cond (nat_eq k number) (option_map frozen_node (found_node nodes.old.items k)) (found_node nodes.old.items k) }
+    ensures { (k : ℕ)
+        → found_node nodes.new.items k ≡ cond (nat_eq k number)
+        (option_map frozen_node (found_node nodes.old.items k)) (found_node nodes.old.items k) }
 {
     for i in 0..nodes.len() {
         if nodes[i].0 == number {
@@ -82,7 +88,9 @@ pub fn freeze_node(nodes: &mut Vec<NodeEntry>, number: u64)
 }
 
 pub fn append_node(nodes: &mut Vec<NodeEntry>, number: u64, bytes: &[u8]) -> Result<(), AllocError>
-    ensures ok { OnOk result ((k : ℕ) → found_node nodes.new.items k ≡ cond (nat_eq k number) (option_map (appended bytes.now) (found_node nodes.old.items k)) (found_node nodes.old.items k)) }
+    ensures ok { OnOk result ((k : ℕ) → found_node nodes.new.items k ≡ cond (nat_eq k number)
+        (option_map (appended bytes.now) (found_node nodes.old.items k))
+        (found_node nodes.old.items k)) }
     ensures err { OnErr result (nodes.new.items ≡ nodes.old.items) }
 {
     for i in 0..nodes.len() {
@@ -96,8 +104,11 @@ pub fn append_node(nodes: &mut Vec<NodeEntry>, number: u64, bytes: &[u8]) -> Res
 
 // Some path has this one as its parent.
 pub fn has_child(places: &[PlaceEntry], parts: &[Text]) -> bool
-    ensures yes { result ≡ true → (q : PathView) × (is_fixed q ≡ false) × (parent q ≡ parts.now) × IsSome (found places.now q) }
-    ensures no { result ≡ false → (q : PathView) → is_fixed q ≡ false → parent q ≡ parts.now → found places.now q ≡ None }
+    ensures yes { result ≡ true
+        → (q : PathView) × (is_fixed q ≡ false) × (parent q ≡ parts.now) × IsSome
+        (found places.now q) }
+    ensures no { result ≡ false → (q : PathView) → is_fixed q ≡ false → parent q ≡ parts.now
+        → found places.now q ≡ None }
 {
     for entry in places {
         if !entry.0.is_fixed() {

@@ -123,7 +123,9 @@ impl PartialEq for FileList {
 
     ghost eq = { files_eq };
 
-    ghost laws = { lists_per (and_per (on_per (λ t. t.0) (lists_per (partial_equiv_from_equiv nat_list_eq_equiv))) (on_per (λ t. t.1) (partial_equiv_from_equiv nat_eq_equiv))) };
+    ghost laws = { lists_per (and_per
+        (on_per (λ t. t.0) (lists_per (partial_equiv_from_equiv nat_list_eq_equiv)))
+        (on_per (λ t. t.1) (partial_equiv_from_equiv nat_eq_equiv))) };
 
     fn eq(&self, other: &Self) -> bool {
         self.files == other.files
@@ -185,7 +187,10 @@ impl PartialEq for NodeList {
 
     ghost eq = { nodes_eq };
 
-    ghost laws = { lists_per (and_per (on_per (λ v. v.bytes) (partial_equiv_from_equiv nat_list_eq_equiv)) (and_per (on_per (λ v. v.maker) (partial_equiv_from_equiv nat_list_eq_equiv)) (on_per (λ v. v.frozen) (partial_equiv_from_equiv bool_eq_equiv)))) };
+    ghost laws = { lists_per (and_per
+        (on_per (λ v. v.bytes) (partial_equiv_from_equiv nat_list_eq_equiv)) (and_per
+        (on_per (λ v. v.maker) (partial_equiv_from_equiv nat_list_eq_equiv))
+        (on_per (λ v. v.frozen) (partial_equiv_from_equiv bool_eq_equiv)))) };
 
     fn eq(&self, other: &Self) -> bool {
         self.nodes == other.nodes
@@ -225,7 +230,8 @@ impl NodeList {
     }
 }
 
-/// A folder as it begins: `names` gives each file's place in `nodes`. The current folder and the topmost are always there, and need not be listed.
+/// A folder as it begins: `names` gives each file's place in `nodes`. The current folder and the
+/// topmost are always there, and need not be listed.
 #[derive(Debug, Drop, PartialEq)]
 pub struct Tree {
     pub folders: PathList,
@@ -309,7 +315,8 @@ impl Tree {
     }
 
     fn file_at(&self, parts: &[Text]) -> Option<u64>
-        ensures some { IfSome result (λ n. place_at (state_of self.now) parts.now ≡ Some (Place.File n)) }
+        ensures some { IfSome result
+            (λ n. place_at (state_of self.now) parts.now ≡ Some (Place.File n)) }
         ensures none { IfNone result (is_file (state_of self.now) parts.now ≡ false) }
     {
         match self.place(parts) {
@@ -363,7 +370,8 @@ impl Tree {
         true
     }
 
-    /// Whether a folder may begin as this tree: whatever it lists stands in a folder, and each name has its node.
+    /// Whether a folder may begin as this tree: whatever it lists stands in a folder, and each name
+    /// has its node.
     pub fn is_state(&self) -> bool
         ensures yes { result ≡ true → IsState (state_of self.now) }
         ensures no { result ≡ false → IsState (state_of self.now) → ⊥ }

@@ -39,7 +39,8 @@ fn value_of(alloc: Global, json: &str) -> Result<Value, RowFault>
     }
 }
 
-/// The arguments of a row: the members of the list that a text spells, or the one value that is no list.
+/// The arguments of a row: the members of the list that a text spells, or the one value that is no
+/// list.
 pub fn arguments(alloc: Global, json: &str) -> Result<Vec<Value>, RowFault> {
     match value_of(alloc, json)? {
         Value::List(list) => Ok(list.into_vec()),

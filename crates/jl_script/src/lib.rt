@@ -1,7 +1,9 @@
 //! Scripts of cases: a row's arguments, what is told of a result, and the printing of both.
 //!
-//! A blank line or one that begins with `#` is printed as it is. Any other line is a row, `LAYER.CASE JSON`: the case's
-//! arguments are the members of the list, or the one value that is no list. What comes is printed below it, behind two
+//! A blank line or one that begins with `#` is printed as it is. Any other line is a row,
+//! `LAYER.CASE JSON`: the case's
+//! arguments are the members of the list, or the one value that is no list. What comes is printed
+//! below it, behind two
 //! blanks. A row of no case, or with other arguments than its case takes, is told as a bad row.
 #![tactic(auto)]
 

@@ -1,4 +1,5 @@
-// What is told of a result: values as JSON, bytes that are no text as digits, the length and MD5 of what is long.
+// What is told of a result: values as JSON, bytes that are no text as digits, the length and MD5 of
+// what is long.
 
 use crate::given::RowFault;
 use jl_text::Text;
