@@ -8,14 +8,16 @@ use Rattle.jl_value.specs.declared.library.TaskError.TheVariants.{BadKind, TooLo
 use Rattle.jl_value.specs.Tree.{Tree, whole, list, numbers, Items, no_items, item, items_of, members_of}
 use Rattle.jl_value.specs.Form.{tree_of, trees_of, entries_of}
 use Rattle.jl_value.specs.declared.value.Value.{Value}
-use Rattle.jl_value.specs.declared.value.Value.TheVariants.{Whole, List as Listed, Table as Tabled}
-use Rattle.jl_builtins.specs.declared.fault.CallFault.{CallFault}
+use Rattle.jl_value.specs.declared.value.Value.TheVariants.{List as Listed, Table as Tabled}
+use Rattle.jl_operands.specs.declared.fault.CallFault.{CallFault}
 use Rattle.jl_builtins.specs.Arithmetic.{whole_within}
-use Rattle.jl_builtins.specs.Steps.{done, failed, counted, operated, steps_within, weight, items_weight}
+use Rattle.jl_operands.specs.Steps.{done, failed, counted, operated, steps_within, weight, items_weight}
 use Rattle.jl_builtins.specs.Operations.{both_items, items_length}
 use Rattle.jl_builtins.specs.Calls.{members_length, length_of, items_from, members_to, is_whole_tree, are_whole, array_behind}
-use Rattle.jl_builtins.specs.Outcomes.{Refuses}
-use Rattle.jl_builtins.proofs.CountLemmas.{counted_with, counted_is, counted_on, counted_over}
+use Rattle.jl_operands.specs.Lists.{wholes}
+use Rattle.jl_operands.specs.Operands.{list_of_wholes}
+use Rattle.jl_operands.specs.Outcomes.{Refuses}
+use Rattle.jl_operands.proofs.CountLemmas.{counted_with, counted_is, counted_on, counted_over}
 
 items_count : (vs : List Value) → items_length (items_of (trees_of vs)) ≡ length vs
 items_count [] = refl
@@ -41,30 +43,30 @@ table_length v ms es r is same h =
 
 -- ---- ranges
 
-both_push : (ms : List Value) (v : Value) (us : Items) → both_items (items_of (trees_of (ms ++ v ∷ []))) us ≡ both_items (items_of (trees_of ms)) (item (tree_of v) us)
-both_push [] v us = refl
-both_push (m ∷ ms) v us = ap (item (tree_of m)) (both_push ms v us)
+both_push : (ms : List ℤ) (z : ℤ) (us : Items) → both_items (items_of (wholes (ms ++ z ∷ []))) us ≡ both_items (items_of (wholes ms)) (item (whole z) us)
+both_push [] z us = refl
+both_push (m ∷ ms) z us = ap (item (whole m)) (both_push ms z us)
 
-both_none : (ms : List Value) → both_items (items_of (trees_of ms)) no_items ≡ items_of (trees_of ms)
+both_none : (ms : List ℤ) → both_items (items_of (wholes ms)) no_items ≡ items_of (wholes ms)
 both_none [] = refl
-both_none (m ∷ ms) = ap (item (tree_of m)) (both_none ms)
+both_none (m ∷ ms) = ap (item (whole m)) (both_none ms)
 
-from_step : (f x y : ℤ) (k n count : ℕ) (ms ns : List Value) → y ≡ x +ℤ pos 1 → k ≡ suc n → both_items (items_of (trees_of ms)) (items_from x k) ≡ items_from f count → ns ≡ ms ++ Whole x ∷ [] → both_items (items_of (trees_of ns)) (items_from y n) ≡ items_from f count
+from_step : (f x y : ℤ) (k n count : ℕ) (ms ns : List ℤ) → y ≡ x +ℤ pos 1 → k ≡ suc n → both_items (items_of (wholes ms)) (items_from x k) ≡ items_from f count → ns ≡ ms ++ x ∷ [] → both_items (items_of (wholes ns)) (items_from y n) ≡ items_from f count
 from_step f x y k n count ms ns e less h same =
-    ap₂ (λ l z. both_items (items_of (trees_of l)) (items_from z n)) same e
-    ∙ both_push ms (Whole x) (items_from (x +ℤ pos 1) n)
-    ∙ ap (λ j. both_items (items_of (trees_of ms)) (items_from x j)) (sym less)
+    ap₂ (λ l z. both_items (items_of (wholes l)) (items_from z n)) same e
+    ∙ both_push ms x (items_from (x +ℤ pos 1) n)
+    ∙ ap (λ j. both_items (items_of (wholes ms)) (items_from x j)) (sym less)
     ∙ h
 
-pub from_more : (f x y : ℤ) (made count : ℕ) (ms ns : List Value) → y ≡ x +ℤ pos 1 → x ≡ f +ℤ pos made → made < count → both_items (items_of (trees_of ms)) (items_from x (count - made)) ≡ items_from f count → ns ≡ ms ++ Whole x ∷ []
-    → (y ≡ f +ℤ pos (made + 1)) × (made + 1 ≤ count) × (both_items (items_of (trees_of ns)) (items_from y (count - (made + 1))) ≡ items_from f count)
+pub from_more : (f x y : ℤ) (made count : ℕ) (ms ns : List ℤ) → y ≡ x +ℤ pos 1 → x ≡ f +ℤ pos made → made < count → both_items (items_of (wholes ms)) (items_from x (count - made)) ≡ items_from f count → ns ≡ ms ++ x ∷ []
+    → (y ≡ f +ℤ pos (made + 1)) × (made + 1 ≤ count) × (both_items (items_of (wholes ns)) (items_from y (count - (made + 1))) ≡ items_from f count)
 from_more f x y made count ms ns e at less h same = (omega (arith, ints), omega arith, from_step f x y (count - made) (count - (made + 1)) count ms ns e (omega arith) h same)
 
-pub from_all : (f g x : ℤ) (made count : ℕ) (ms : List Value) → f ≡ g → count ≤ made → both_items (items_of (trees_of ms)) (items_from x (count - made)) ≡ items_from f count → items_of (trees_of ms) ≡ items_from g count
+pub from_all : (f g x : ℤ) (made count : ℕ) (ms : List ℤ) → f ≡ g → count ≤ made → both_items (items_of (wholes ms)) (items_from x (count - made)) ≡ items_from f count → items_of (wholes ms) ≡ items_from g count
 from_all f g x made count ms e all h =
     let none : count - made ≡ 0 = omega arith in
     sym (both_none ms)
-    ∙ ap (λ n. both_items (items_of (trees_of ms)) (items_from x n)) (sym none)
+    ∙ ap (λ n. both_items (items_of (wholes ms)) (items_from x n)) (sym none)
     ∙ h
     ∙ ap (λ z. items_from z count) e
 
@@ -76,11 +78,11 @@ from_weight z (suc n) = let more = from_weight (z +ℤ pos 1) n in omega arith
 pub range_weight : (a b : ℤ) (k n : ℕ) → k ≡ members_to (b -ℤ a) → n ≡ min (k + 1) 18446744073709551615 → n ≡ min (weight (list (items_from a (members_to (b -ℤ a))))) 18446744073709551615
 range_weight a b k n e same = let w = from_weight a (members_to (b -ℤ a)) in omega arith
 
-pub range_made : (o : Option ℕ) (n m k s : ℕ) (a b : ℤ) (l : List Tree) (vs : List Value) → k ≡ members_to (b -ℤ a) → m ≡ min (k + 1) 18446744073709551615 → o ≡ steps_within (n + m) → o ≡ Some s → l ≡ trees_of vs → items_of (trees_of vs) ≡ items_from a k
-    → counted n (list (items_from a (members_to (b -ℤ a)))) ≡ done (list (items_of l)) s
-range_made o n m k s a b l vs e w same there made is =
+pub range_made : (o : Option ℕ) (n m k s : ℕ) (a b : ℤ) (zs : List ℤ) → k ≡ members_to (b -ℤ a) → m ≡ min (k + 1) 18446744073709551615 → o ≡ steps_within (n + m) → o ≡ Some s → items_of (wholes zs) ≡ items_from a k
+    → counted n (list (items_from a (members_to (b -ℤ a)))) ≡ done (list_of_wholes zs) s
+range_made o n m k s a b zs e w same there made =
     counted_on o n m s (list (items_from a (members_to (b -ℤ a)))) (range_weight a b k m e w) same there
-    ∙ ap (λ ts. done (list ts) s) (ap (items_from a) (sym e) ∙ sym is ∙ ap items_of (sym made))
+    ∙ ap (λ ts. done (list ts) s) (ap (items_from a) (sym e) ∙ sym made)
 
 pub range_over : (o : Option ℕ) (n m k : ℕ) (a b : ℤ) → k ≡ members_to (b -ℤ a) → m ≡ min (k + 1) 18446744073709551615 → o ≡ steps_within (n + m) → o ≡ None → counted n (list (items_from a (members_to (b -ℤ a)))) ≡ failed TooLong
 range_over o n m k a b e w same there = counted_over o n m (list (items_from a (members_to (b -ℤ a)))) (range_weight a b k m e w) same there

@@ -12,7 +12,7 @@ use Rattle.std.proofs.lemmas.Slice.Eq.{bytes_eq-Decides}
 use Rattle.jl_value.specs.Tree.{Tree, members_of}
 use Rattle.jl_value.specs.declared.library.TaskError.TheVariants.{BadIndex}
 use Rattle.jl_builtins.specs.Operations.{member_of}
-use Rattle.jl_builtins.specs.Lists.{with_entry}
+use Rattle.jl_operands.specs.Lists.{with_entry}
 
 stands_by : (r : Ordering) (k : List ℕ) (v : Tree) (e : List ℕ × Tree) (es : List (List ℕ × Tree)) → bytes_eq k e.0 ≡ is_eq r
     → member_of k (members_of (insert_entry (slice_cmp nat_cmp) es k v)) ≡ Ok v

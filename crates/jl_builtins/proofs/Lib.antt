@@ -1,4 +1,4 @@
-pub mod CountLemmas
+pub mod WholeLemmas
 pub mod TableLemmas
 pub mod CallLemmas
 pub mod OperationLemmas

@@ -1,8 +1,6 @@
-pub mod Steps
 pub mod Arithmetic
 pub mod Operations
 pub mod Calls
-pub mod Lists
-pub mod Outcomes
+pub mod Joined
 pub mod TableLaws
 pub mod ProperLaws

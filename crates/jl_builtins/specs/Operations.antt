@@ -75,6 +75,12 @@ abbrev pub is_plus : Operator → Bool
 is_plus Plus = true
 is_plus _ = false
 
+-- an operator but `+`, where a side is a list: by whether both are the same
+abbrev pub on_lists : Operator → Bool → Result Tree TaskError
+on_lists Equal same = Ok (truth same)
+on_lists Unequal same = Ok (truth (not same))
+on_lists _ same = Err BadKind
+
 -- an operator, where both sides have values
 abbrev pub operation : Operator → Tree → Tree → Result Tree TaskError
 operation Or v w = Err BadKind

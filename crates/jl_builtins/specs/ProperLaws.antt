@@ -17,12 +17,12 @@ use Rattle.jl_lexer.specs.declared.operators.Prefix.{Prefix}
 use Rattle.jl_lexer.specs.declared.operators.Prefix.TheVariants.{Not, Negative}
 use Rattle.jl_lexer.specs.declared.operators.Function.{Function}
 use Rattle.jl_lexer.specs.declared.operators.Function.TheVariants.{Len, Sum, Min, Max, Range, Array}
-use Rattle.jl_builtins.specs.Steps.{Ran, done, failed, then', counted, operated, weight}
+use Rattle.jl_operands.specs.Steps.{Ran, done, failed, then', counted, operated, weight}
 use Rattle.jl_numbers.specs.Division.{is_64, within_64, floor_quotient, floor_rest}
 use Rattle.jl_builtins.specs.Arithmetic.{whole_if, whole_within, divided}
 use Rattle.jl_builtins.specs.Operations.{both_items, sum_of, compared, holds, tested, on_wholes, operation, prefixed, place_of, items_length, item_at, number_at, member_of, at_place, element_of}
 use Rattle.jl_builtins.specs.Calls.{begins_character, members_length, length_of, sum_behind, numbers_sum, with_whole, items_sum, sum_of_all, better, numbers_best, items_best, best_of, array_behind, array_of, items_from, members_to, range_of, call_value}
-use Rattle.jl_builtins.specs.Lists.{wholes, source_of, each_over, picked, filtered_over, over}
+use Rattle.jl_operands.specs.Lists.{wholes, source_of, each_over, picked, filtered_over, over}
 
 -- ---- values are proper
 

@@ -16,7 +16,7 @@ use Rattle.jl_value.specs.Tree.{Tree, members_of}
 use Rattle.jl_value.specs.Canonical.{array_key}
 use Rattle.jl_value.specs.Proper.{IsProper, AreKeys, HasProper, keys}
 use Rattle.jl_lexer.specs.Words.{if_text, quoted_in, if_key, key_in}
-use Rattle.jl_builtins.specs.Lists.{with_entry}
+use Rattle.jl_operands.specs.Lists.{with_entry}
 
 -- ---- the keys that a word writes
 

@@ -4,10 +4,10 @@ ghost use lib.IntN.{◌-ℤ◌, ◌*ℤ◌, neg_ℤ};
 ghost use Rattle.jl_value.specs.Form.{tree_of};
 ghost use Rattle.jl_numbers.specs.Division.{floor_quotient, floor_rest};
 ghost use Rattle.jl_builtins.specs.Arithmetic.{whole_if, whole_within, divided};
-ghost use Rattle.jl_builtins.specs.Outcomes.{Makes};
+ghost use Rattle.jl_operands.specs.Outcomes.{Makes};
 
-use crate::fault::CallFault;
 use jl_numbers::{div_floor, rem_floor};
+use jl_operands::CallFault;
 use jl_value::{TaskError, Value};
 
 fn whole(value: Option<i64>) -> Result<Value, CallFault>

@@ -3,18 +3,17 @@ ghost use Rattle.std.specs.Prelude.{◌≡◌, ◌+ℤ◌, [], IfOk, Ok, true, f
 ghost use lib.IntN.{◌-ℤ◌};
 ghost use Rattle.jl_value.specs.Proper.{IsWhole};
 ghost use Rattle.jl_value.specs.Form.{tree_of, trees_of};
-ghost use Rattle.jl_value.specs.Tree.{whole, items_of};
+ghost use Rattle.jl_value.specs.Tree.{whole, numbers as numbers_tree, items_of};
 ghost use Rattle.jl_builtins.specs.Arithmetic.{whole_within};
-ghost use Rattle.jl_builtins.specs.Steps.{operated};
-ghost use Rattle.jl_builtins.specs.Calls.{begins_character as begins_character_of, length_of, numbers_sum as numbers_sum_of, IsNumber, items_sum as items_sum_of, sum_of_all, better as better_of, numbers_best as numbers_best_of, items_best as items_best_of, first_best, first_number, best_of, array_behind, array_of as array_value, is_whole_tree, are_whole as are_whole_of, items_from, members_to, range_of, call_value};
-ghost use Rattle.jl_builtins.specs.Outcomes.{Makes, Runs};
+ghost use Rattle.jl_operands.specs.Steps.{counted, operated};
+ghost use Rattle.jl_operands.specs.Lists.{wholes as wholes_of};
+ghost use Rattle.jl_operands.specs.Operands.{list_of_wholes, tree_of_operand};
+ghost use Rattle.jl_builtins.specs.Calls.{begins_character as begins_character_of, length_of, numbers_sum as numbers_sum_of, IsNumber, items_sum as items_sum_of, sum_of_all, better as better_of, numbers_best as numbers_best_of, items_best as items_best_of, first_best, first_number, best_of, array_behind, array_of as array_value, is_whole_tree, are_whole as are_whole_of, items_from, members_to, range_of, call_value as value_of_call};
+ghost use Rattle.jl_operands.specs.Outcomes.{Makes, Runs};
 
-use crate::counting::{Counted, count_copy, count_value};
-use crate::fault::CallFault;
-use crate::steps::Steps;
-use crate::weights::length_weight;
 use jl_lexer::Function;
-use jl_value::{List, Numbers, TaskError, Value};
+use jl_operands::{CallFault, Counted, Operand, Steps, count_copy, count_value, length_weight};
+use jl_value::{Numbers, TaskError, Value};
 use std::alloc::{AllocError, Global};
 
 fn begins_character(byte: u8) -> bool
@@ -211,7 +210,7 @@ fn array_of(alloc: Global, items: &[Value], steps: Steps) -> Result<Counted, Cal
     }
     match steps.checked_add(length_weight(items.len())) {
         Some(steps) => Ok(Counted {
-            value: numbers_of(alloc, items)?,
+            value: Operand::Plain(numbers_of(alloc, items)?),
             steps,
         }),
         None => Err(CallFault::Task(TaskError::TooLong)),
@@ -229,15 +228,15 @@ fn array(alloc: Global, value: &Value, steps: Steps) -> Result<Counted, CallFaul
 }
 
 // The whole numbers from one on, so many.
-fn numbers_from(alloc: Global, first: i64, count: u64) -> Result<Vec<Value>, AllocError>
+fn numbers_from(alloc: Global, first: i64, count: u64) -> Result<Vec<i64>, AllocError>
     requires { IsWhole (first +ℤ pos count) }
-    ensures { IfOk result (λ v. items_of (trees_of v.items) ≡ items_from first count) }
+    ensures { IfOk result (λ v. items_of (wholes_of v.items) ≡ items_from first count) }
 {
     let mut members = Vec::with_capacity(alloc, count as usize)?;
     let mut next = first;
     let mut made: u64 = 0;
     'members: while made < count {
-        members.push(Value::Whole(next))?;
+        members.push(next)?;
         next += 1;
         made += 1;
     }
@@ -260,13 +259,10 @@ fn range(alloc: Global, first: i64, end: i64, steps: Steps) -> Result<Counted, C
 {
     let members = members_between(first, end);
     match steps.checked_add(members.saturating_add(1)) {
-        Some(steps) => {
-            let list = List::new(numbers_from(alloc, first, members)?);
-            Ok(Counted {
-                value: Value::List(list),
-                steps,
-            })
-        }
+        Some(steps) => Ok(Counted {
+            value: Operand::Wholes(numbers_from(alloc, first, members)?),
+            steps,
+        }),
         None => Err(CallFault::Task(TaskError::TooLong)),
     }
 }
@@ -280,8 +276,12 @@ fn range_to(alloc: Global, end: &Value, steps: Steps) -> Result<Counted, CallFau
     }
 }
 
-/// `range(first, end)`.
-pub fn span(alloc: Global, first: &Value, end: &Value, steps: Steps) -> Result<Counted, CallFault>
+fn span_values(
+    alloc: Global,
+    first: &Value,
+    end: &Value,
+    steps: Steps,
+) -> Result<Counted, CallFault>
     ensures { Runs result (operated steps (range_of (tree_of first.now) (tree_of end.now))) }
 {
     match first {
@@ -293,14 +293,32 @@ pub fn span(alloc: Global, first: &Value, end: &Value, steps: Steps) -> Result<C
     }
 }
 
-/// What a function makes of its one member, which is counted.
-pub fn call(
+/// `range(first, end)`.
+pub fn span(
+    alloc: Global,
+    first: &Operand,
+    end: &Operand,
+    steps: Steps,
+) -> Result<Counted, CallFault>
+    ensures { Runs result
+        (operated steps (range_of (tree_of_operand first.now) (tree_of_operand end.now))) }
+{
+    match first {
+        Operand::Plain(first) => match end {
+            Operand::Plain(end) => span_values(alloc, first, end, steps),
+            Operand::Wholes(_) => Err(CallFault::Task(TaskError::BadKind)),
+        },
+        Operand::Wholes(_) => Err(CallFault::Task(TaskError::BadKind)),
+    }
+}
+
+fn call_value(
     alloc: Global,
     function: Function,
     member: &Value,
     steps: Steps,
 ) -> Result<Counted, CallFault>
-    ensures { Runs result (operated steps (call_value function (tree_of member.now))) }
+    ensures { Runs result (operated steps (value_of_call function (tree_of member.now))) }
 {
     match function {
         Function::Len => count_value(len(member)?, steps),
@@ -309,5 +327,73 @@ pub fn call(
         Function::Max => count_value(best(false, member)?, steps),
         Function::Range => range_to(alloc, member, steps),
         Function::Array => array(alloc, member, steps),
+    }
+}
+
+fn wholes_len(numbers: &[i64]) -> Result<Value, CallFault>
+    ensures { Makes result (length_of (list_of_wholes numbers.now)) }
+{
+    count_of(numbers.len())
+}
+
+fn wholes_sum(numbers: &[i64]) -> Result<Value, CallFault>
+    ensures { Makes result (sum_of_all (list_of_wholes numbers.now)) }
+{
+    numbers_sum(numbers)
+}
+
+fn wholes_best(least: bool, numbers: &[i64]) -> Result<Value, CallFault>
+    ensures { Makes result (best_of least (list_of_wholes numbers.now)) }
+{
+    numbers_best(least, numbers)
+}
+
+// The array of whole numbers, which is counted before it is made.
+fn wholes_array(alloc: Global, numbers: &[i64], steps: Steps) -> Result<Counted, CallFault>
+    ensures { Runs result (counted steps (numbers_tree numbers.now)) }
+{
+    match steps.checked_add(length_weight(numbers.len())) {
+        Some(steps) => {
+            let copy = Numbers::new(Vec::from_slice(alloc, numbers)?);
+            Ok(Counted {
+                value: Operand::Plain(Value::Numbers(copy)),
+                steps,
+            })
+        }
+        None => Err(CallFault::Task(TaskError::TooLong)),
+    }
+}
+
+#[tactic(auto, using(crate::proofs::WholeLemmas::wholes_array))]
+fn call_wholes(
+    alloc: Global,
+    function: Function,
+    numbers: &[i64],
+    steps: Steps,
+) -> Result<Counted, CallFault>
+    ensures { Runs result (operated steps (value_of_call function (list_of_wholes numbers.now))) }
+{
+    match function {
+        Function::Len => count_value(wholes_len(numbers)?, steps),
+        Function::Sum => count_value(wholes_sum(numbers)?, steps),
+        Function::Min => count_value(wholes_best(true, numbers)?, steps),
+        Function::Max => count_value(wholes_best(false, numbers)?, steps),
+        Function::Range => Err(CallFault::Task(TaskError::BadKind)),
+        Function::Array => wholes_array(alloc, numbers, steps),
+    }
+}
+
+/// What a function makes of its one member, which is counted.
+pub fn call(
+    alloc: Global,
+    function: Function,
+    member: &Operand,
+    steps: Steps,
+) -> Result<Counted, CallFault>
+    ensures { Runs result (operated steps (value_of_call function (tree_of_operand member.now))) }
+{
+    match member {
+        Operand::Plain(member) => call_value(alloc, function, member, steps),
+        Operand::Wholes(numbers) => call_wholes(alloc, function, numbers.as_slice(), steps),
     }
 }

@@ -1,7 +1,7 @@
 // Laws of the operations on values.
 ghost use Rattle.std.specs.Prelude.{◌≡◌, ◌≢◌, ℕ, List, Some, Ok};
 ghost use Rattle.jl_value.specs.Tree.{Tree, members_of};
-ghost use Rattle.jl_builtins.specs.Lists.{with_entry};
+ghost use Rattle.jl_operands.specs.Lists.{with_entry};
 ghost use Rattle.jl_builtins.specs.Operations.{member_of};
 
 /// Of two equal keys of a table the later stands, and the others keep their values.

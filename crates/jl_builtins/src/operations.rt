@@ -1,20 +1,21 @@
 // What operators, `not`, a minus and an index make of values.
 ghost use Rattle.std.specs.Prelude.{◌≡◌, ◌++◌, IfOk, MatchOption, Ok, Err, length, true, false};
 ghost use Rattle.jl_value.specs.Form.{tree_of, trees_of, entries_of};
-ghost use Rattle.jl_value.specs.Tree.{whole, text, list, numbers, items_of, members_of};
+ghost use Rattle.jl_value.specs.Tree.{whole, text, numbers, items_of, members_of};
 ghost use Rattle.jl_value.specs.declared.library.TaskError.TheVariants.{BadIndex};
-ghost use Rattle.jl_builtins.specs.Operations.{sum_of, compared as compared_of, holds, tested as tested_of, operation as operation_of, prefixed as prefixed_of, place_of, item_at, number_at, at_place, items_length, member_of, element_of, is_arithmetic, is_plus as is_plus_of};
-ghost use Rattle.jl_builtins.specs.Steps.{counted, operated};
-ghost use Rattle.jl_builtins.specs.Outcomes.{Makes, Runs};
+ghost use Rattle.jl_builtins.specs.Operations.{sum_of, compared as compared_of, holds, tested as tested_of, operation as operation_of, prefixed as prefixed_of, place_of, item_at, number_at, at_place, items_length, member_of, element_of, is_arithmetic, is_plus as is_plus_of, on_lists};
+ghost use Rattle.jl_operands.specs.Lists.{wholes as wholes_of};
+ghost use Rattle.jl_operands.specs.Operands.{list_of_wholes, tree_of_operand};
+ghost use Rattle.jl_operands.specs.Steps.{counted, operated};
+ghost use Rattle.jl_operands.specs.Outcomes.{Makes, Runs};
 
 use crate::arithmetic::{difference, negative, product, quotient, remainder, whole_sum};
-use crate::counting::{Counted, count_copy, count_value};
-use crate::fault::CallFault;
-use crate::steps::Steps;
-use crate::weights::{items_weight, length_weight};
+use crate::joined::{add_before, add_behind, add_members, add_wholes};
+use crate::same::{are_same, is_list_of};
 use jl_lexer::{Operator, Prefix};
+use jl_operands::{CallFault, Counted, Operand, Steps, count_copy, count_value, length_weight};
 use jl_text::Text;
-use jl_value::{List, Numbers, TaskError, Value};
+use jl_value::{Numbers, TaskError, Value};
 use std::alloc::{AllocError, Global};
 use std::cmp::Ordering;
 
@@ -24,26 +25,6 @@ fn join_texts(alloc: Global, left: &Text, right: &Text) -> Result<Text, AllocErr
     let mut text = String::from_str(alloc, left.as_str())?;
     text.push_str(right.as_str())?;
     Ok(Text::new(text))
-}
-
-fn copy_onto(
-    alloc: Global,
-    mut members: Vec<Value>,
-    more: &[Value],
-) -> Result<Vec<Value>, AllocError>
-    ensures { IfOk result (λ v. trees_of v.items ≡ trees_of members.items ++ trees_of more.now) }
-{
-    for member in more {
-        members.push(member.copy(alloc)?)?;
-    }
-    Ok(members)
-}
-
-fn join_lists(alloc: Global, left: &List, right: &List) -> Result<List, AllocError>
-    ensures { IfOk result (λ l. l ≡ left.now ++ right.now) }
-{
-    let members = copy_onto(alloc, Vec::new(alloc), left.as_slice())?;
-    Ok(List::new(copy_onto(alloc, members, right.as_slice())?))
 }
 
 fn join_arrays(alloc: Global, left: &Numbers, right: &Numbers) -> Result<Numbers, AllocError>
@@ -61,21 +42,7 @@ fn add_texts(alloc: Global, left: &Text, right: &Text, steps: Steps) -> Result<C
     let more = length_weight(left.as_str().len()).saturating_add(right.as_str().len() as u64);
     match steps.checked_add(more) {
         Some(steps) => Ok(Counted {
-            value: Value::Text(join_texts(alloc, left, right)?),
-            steps,
-        }),
-        None => Err(CallFault::Task(TaskError::TooLong)),
-    }
-}
-
-// Two lists as one, which is counted before it is made.
-fn add_lists(alloc: Global, left: &List, right: &List, steps: Steps) -> Result<Counted, CallFault>
-    ensures { Runs result (counted steps (list (items_of (left.now ++ right.now)))) }
-{
-    let both = items_weight(left.as_slice()).saturating_add(items_weight(right.as_slice()));
-    match steps.checked_add(both.saturating_add(1)) {
-        Some(steps) => Ok(Counted {
-            value: Value::List(join_lists(alloc, left, right)?),
+            value: Operand::Plain(Value::Text(join_texts(alloc, left, right)?)),
             steps,
         }),
         None => Err(CallFault::Task(TaskError::TooLong)),
@@ -94,15 +61,20 @@ fn add_arrays(
     let more = length_weight(left.as_slice().len()).saturating_add(right.as_slice().len() as u64);
     match steps.checked_add(more) {
         Some(steps) => Ok(Counted {
-            value: Value::Numbers(join_arrays(alloc, left, right)?),
+            value: Operand::Plain(Value::Numbers(join_arrays(alloc, left, right)?)),
             steps,
         }),
         None => Err(CallFault::Task(TaskError::TooLong)),
     }
 }
 
-/// The sum of two whole numbers, or two texts, lists or arrays joined.
-fn add(alloc: Global, left: &Value, right: &Value, steps: Steps) -> Result<Counted, CallFault>
+// The sum of two whole numbers, or two texts, lists or arrays joined.
+fn add_values(
+    alloc: Global,
+    left: &Value,
+    right: &Value,
+    steps: Steps,
+) -> Result<Counted, CallFault>
     ensures { Runs result (operated steps (sum_of (tree_of left.now) (tree_of right.now))) }
 {
     match left {
@@ -115,7 +87,7 @@ fn add(alloc: Global, left: &Value, right: &Value, steps: Steps) -> Result<Count
             _ => Err(CallFault::Task(TaskError::BadKind)),
         },
         Value::List(left) => match right {
-            Value::List(right) => add_lists(alloc, left, right, steps),
+            Value::List(right) => add_members(alloc, left, right, steps),
             _ => Err(CallFault::Task(TaskError::BadKind)),
         },
         Value::Numbers(left) => match right {
@@ -123,6 +95,23 @@ fn add(alloc: Global, left: &Value, right: &Value, steps: Steps) -> Result<Count
             _ => Err(CallFault::Task(TaskError::BadKind)),
         },
         _ => Err(CallFault::Task(TaskError::BadKind)),
+    }
+}
+
+/// The sum of two whole numbers, or two texts, lists or arrays joined.
+fn add(alloc: Global, left: &Operand, right: &Operand, steps: Steps) -> Result<Counted, CallFault>
+    ensures { Runs result
+        (operated steps (sum_of (tree_of_operand left.now) (tree_of_operand right.now))) }
+{
+    match left {
+        Operand::Plain(left) => match right {
+            Operand::Plain(right) => add_values(alloc, left, right, steps),
+            Operand::Wholes(right) => add_behind(alloc, left, right.as_slice(), steps),
+        },
+        Operand::Wholes(left) => match right {
+            Operand::Plain(right) => add_before(alloc, left.as_slice(), right, steps),
+            Operand::Wholes(right) => add_wholes(alloc, left.as_slice(), right.as_slice(), steps),
+        },
     }
 }
 
@@ -185,7 +174,7 @@ fn on_wholes(operator: Operator, left: &Value, right: &Value) -> Result<Value, C
 }
 
 // What an operator but `+` makes of two values.
-fn apply(operator: Operator, left: &Value, right: &Value) -> Result<Value, CallFault>
+fn apply_values(operator: Operator, left: &Value, right: &Value) -> Result<Value, CallFault>
     requires { is_plus_of operator ≡ false }
     ensures { Makes result (operation_of operator (tree_of left.now) (tree_of right.now)) }
 {
@@ -206,6 +195,37 @@ fn apply(operator: Operator, left: &Value, right: &Value) -> Result<Value, CallF
     }
 }
 
+// What an operator but `+` makes of two values of which one is a list, by whether they are the same.
+fn test_lists(operator: Operator, same: bool) -> Result<Value, CallFault>
+    ensures { Makes result (on_lists operator same) }
+{
+    match operator {
+        Operator::Equal => Ok(Value::Truth(same)),
+        Operator::Unequal => Ok(Value::Truth(!same)),
+        _ => Err(CallFault::Task(TaskError::BadKind)),
+    }
+}
+
+// What an operator but `+` makes of two operands.
+fn apply(operator: Operator, left: &Operand, right: &Operand) -> Result<Value, CallFault>
+    requires { is_plus_of operator ≡ false }
+    ensures { Makes result
+        (operation_of operator (tree_of_operand left.now) (tree_of_operand right.now)) }
+{
+    match left {
+        Operand::Plain(left) => match right {
+            Operand::Plain(right) => apply_values(operator, left, right),
+            Operand::Wholes(right) => test_lists(operator, is_list_of(left, right.as_slice())),
+        },
+        Operand::Wholes(left) => match right {
+            Operand::Plain(right) => test_lists(operator, is_list_of(right, left.as_slice())),
+            Operand::Wholes(right) => {
+                test_lists(operator, are_same(left.as_slice(), right.as_slice()))
+            }
+        },
+    }
+}
+
 fn is_plus(operator: Operator) -> bool
     ensures { result ≡ is_plus_of operator }
 {
@@ -220,12 +240,13 @@ fn is_plus(operator: Operator) -> bool
 pub fn operate(
     alloc: Global,
     operator: Operator,
-    left: &Value,
-    right: &Value,
+    left: &Operand,
+    right: &Operand,
     steps: Steps,
 ) -> Result<Counted, CallFault>
     ensures { Runs result
-        (operated steps (operation_of operator (tree_of left.now) (tree_of right.now))) }
+        (operated steps
+        (operation_of operator (tree_of_operand left.now) (tree_of_operand right.now))) }
 {
     if is_plus(operator) {
         return add(alloc, left, right, steps);
@@ -250,10 +271,14 @@ fn apply_prefix(prefix: Prefix, value: &Value) -> Result<Value, CallFault>
 }
 
 /// What `not` or a minus makes of a value, which is counted.
-pub fn operate_prefix(prefix: Prefix, value: &Value, steps: Steps) -> Result<Counted, CallFault>
-    ensures { Runs result (operated steps (prefixed_of prefix (tree_of value.now))) }
+#[tactic(auto, using(crate::proofs::OperationLemmas::no_prefix))]
+pub fn operate_prefix(prefix: Prefix, value: &Operand, steps: Steps) -> Result<Counted, CallFault>
+    ensures { Runs result (operated steps (prefixed_of prefix (tree_of_operand value.now))) }
 {
-    count_value(apply_prefix(prefix, value)?, steps)
+    match value {
+        Operand::Plain(value) => count_value(apply_prefix(prefix, value)?, steps),
+        Operand::Wholes(_) => Err(CallFault::Task(TaskError::BadKind)),
+    }
 }
 
 // A place in a list of this length, from 0, or from the end where it is negative.
@@ -321,9 +346,12 @@ fn named_member(
     }
 }
 
-/// The element of a list, an array or a table at a place or a key, which is counted before it is
-/// copied.
-pub fn element(alloc: Global, whole: &Value, at: &Value, steps: Steps) -> Result<Counted, CallFault>
+fn element_of_value(
+    alloc: Global,
+    whole: &Value,
+    at: &Value,
+    steps: Steps,
+) -> Result<Counted, CallFault>
     ensures { Runs result (operated steps (element_of (tree_of whole.now) (tree_of at.now))) }
 {
     match whole {
@@ -340,5 +368,44 @@ pub fn element(alloc: Global, whole: &Value, at: &Value, steps: Steps) -> Result
             _ => Err(CallFault::Task(TaskError::BadKind)),
         },
         _ => Err(CallFault::Task(TaskError::BadKind)),
+    }
+}
+
+fn whole_at(numbers: &[i64], at: i64) -> Result<Value, CallFault>
+    ensures { Makes result
+        (at_place (item_at (items_of (wholes_of numbers.now)))
+        (place_of (items_length (items_of (wholes_of numbers.now))) at)) }
+{
+    number(numbers, at)
+}
+
+fn element_of_wholes(numbers: &[i64], at: &Value, steps: Steps) -> Result<Counted, CallFault>
+    ensures { Runs result
+        (operated steps (element_of (list_of_wholes numbers.now) (tree_of at.now))) }
+{
+    match at {
+        Value::Whole(at) => count_value(whole_at(numbers, *at)?, steps),
+        _ => Err(CallFault::Task(TaskError::BadKind)),
+    }
+}
+
+/// The element of a list, an array or a table at a place or a key, which is counted before it is
+/// copied.
+#[tactic(auto, using(crate::proofs::OperationLemmas::no_element))]
+pub fn element(
+    alloc: Global,
+    whole: &Operand,
+    at: &Operand,
+    steps: Steps,
+) -> Result<Counted, CallFault>
+    ensures { Runs result
+        (operated steps (element_of (tree_of_operand whole.now) (tree_of_operand at.now))) }
+{
+    match at {
+        Operand::Plain(at) => match whole {
+            Operand::Plain(whole) => element_of_value(alloc, whole, at, steps),
+            Operand::Wholes(whole) => element_of_wholes(whole.as_slice(), at, steps),
+        },
+        Operand::Wholes(_) => Err(CallFault::Task(TaskError::BadKind)),
     }
 }

@@ -9,10 +9,10 @@ use Rattle.jl_lexer.specs.Words.{constant_of, key_in}
 use Rattle.jl_syntax.specs.Trees.{Expression, tall, leaf, bracketed, before, between, choice, index, call, span, list, each, filtered, table, Members, no_members, member, Entries, no_entries, entry}
 use Rattle.jl_builtins.specs.declared.left_side.Settled.{Settled}
 use Rattle.jl_builtins.specs.declared.left_side.Settled.TheVariants.{Known, Open, Wrong, Both}
-use Rattle.jl_builtins.specs.Steps.{Ran, done, failed, then', counted, operated, weight}
+use Rattle.jl_operands.specs.Steps.{Ran, done, failed, then', counted, operated, weight}
 use Rattle.jl_builtins.specs.Operations.{operation, prefixed, element_of, settle}
 use Rattle.jl_builtins.specs.Calls.{call_value, range_of}
-use Rattle.jl_builtins.specs.Lists.{source_of, each_over, picked, filtered_over, over, with_entry}
+use Rattle.jl_operands.specs.Lists.{source_of, each_over, picked, filtered_over, over, with_entry}
 use Rattle.jl_lang.specs.Meaning.{argument, named, word_value, truth_counted, settled, chosen, value_of, members_value, entries_value}
 
 abbrev IsLow : Ran → Type 0

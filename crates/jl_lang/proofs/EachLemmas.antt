@@ -3,11 +3,11 @@ use Rattle.std.proofs.Common.{◌≡◌, ℕ, List, [], ◌∷◌, sym, ap, ◌�
 use Rattle.std.specs.Prelude.{Some, MatchResult, Result}
 use Rattle.jl_value.specs.Tree.{Tree}
 use Rattle.jl_syntax.specs.Trees.{Expression, each, filtered}
-use Rattle.jl_builtins.specs.declared.fault.CallFault.{CallFault}
-use Rattle.jl_builtins.specs.declared.counting.Counted.{Counted}
-use Rattle.jl_builtins.specs.Steps.{Ran, done, then'}
-use Rattle.jl_builtins.specs.Lists.{source_of, each_over, filtered_over, over}
-use Rattle.jl_builtins.specs.Outcomes.{IsRan, IsFailing}
+use Rattle.jl_operands.specs.declared.fault.CallFault.{CallFault}
+use Rattle.jl_operands.specs.declared.counting.Counted.{Counted}
+use Rattle.jl_operands.specs.Steps.{Ran, done, then'}
+use Rattle.jl_operands.specs.Lists.{source_of, each_over, filtered_over, over}
+use Rattle.jl_operands.specs.Outcomes.{IsRan, IsFailing}
 use Rattle.jl_lang.specs.Meaning.{value_of}
 
 -- what goes over the members of a value

@@ -16,10 +16,10 @@ use Rattle.jl_value.specs.Proper.{AreKeys, keys}
 use Rattle.jl_value.specs.declared.value.Value.{Value}
 use Rattle.jl_lexer.specs.Words.{key_in}
 use Rattle.jl_syntax.specs.Trees.{Expression, entries_of}
-use Rattle.jl_builtins.specs.Steps.{Ran, done, then'}
-use Rattle.jl_builtins.specs.Lists.{with_entry}
+use Rattle.jl_operands.specs.Steps.{Ran, done, then'}
+use Rattle.jl_operands.specs.Lists.{with_entry}
 use Rattle.jl_lang.specs.Meaning.{value_of, entries_value}
-use Rattle.jl_builtins.specs.Outcomes.{pairs_in}
+use Rattle.jl_operands.specs.Outcomes.{pairs_in}
 use Rattle.jl_builtins.specs.TableLaws.{IfKey, key_good, keys_more}
 
 pairs_by : {Y : Type 0} (r : Ordering) (e : String Y × Value) (es : List (String Y × Value)) (k : String Y) (v : Value)

@@ -4,9 +4,9 @@ use Rattle.std.specs.Prelude.{if◌then◌else◌, nat_lt, Some}
 use Rattle.jl_value.specs.Tree.{Tree, truth, list, Items, items_of}
 use Rattle.jl_value.specs.declared.library.TaskError.TheVariants.{TooLong}
 use Rattle.jl_syntax.specs.Trees.{Expression, each, filtered}
-use Rattle.jl_builtins.specs.Steps.{Ran, done, failed, then', counted, weight}
+use Rattle.jl_operands.specs.Steps.{Ran, done, failed, then', counted, weight}
 use Rattle.jl_builtins.specs.Operations.{items_length}
-use Rattle.jl_builtins.specs.Lists.{source_of, each_over, picked, filtered_over, over, LetsThrough}
+use Rattle.jl_operands.specs.Lists.{source_of, each_over, picked, filtered_over, over, LetsThrough}
 use Rattle.jl_lang.specs.Meaning.{value_of}
 
 items_count : (vs : List Tree) → items_length (items_of vs) ≡ length vs

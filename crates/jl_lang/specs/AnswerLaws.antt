@@ -18,11 +18,11 @@ use Rattle.jl_syntax.specs.Trees.{Expression, tall, leaf, bracketed, before, bet
 use Rattle.jl_module.specs.Headings.{LineReading, bad, good, definition_in}
 use Rattle.jl_builtins.specs.declared.left_side.Settled.{Settled}
 use Rattle.jl_builtins.specs.declared.left_side.Settled.TheVariants.{Known, Open, Wrong, Both}
-use Rattle.jl_builtins.specs.Steps.{Ran, done, failed}
+use Rattle.jl_operands.specs.Steps.{Ran, done, failed}
 use Rattle.jl_builtins.specs.Operations.{operation, prefixed, element_of, settle}
 use Rattle.jl_builtins.specs.Calls.{range_of, call_value}
 use Rattle.jl_builtins.specs.TableLaws.{key_good, IsTable, empty_table, entry_table}
-use Rattle.jl_builtins.specs.Lists.{source_of, with_entry}
+use Rattle.jl_operands.specs.Lists.{source_of, with_entry}
 use Rattle.jl_lang.specs.Meaning.{argument, named, word_value, truth_counted, settled, again, chosen, value_of, members_value, entries_value, limited, has_arguments, has_parameters, answered, answer_of}
 use Rattle.jl_builtins.specs.ProperLaws.{IsDone, AllProper, counted_proper, then_proper, operated_proper, operation_proper, prefixed_proper, element_proper, range_proper, call_proper, all_items, all_more, source_proper, over_proper, each_proper, filtered_proper}
 

@@ -12,10 +12,10 @@ use Rattle.jl_syntax.specs.Trees.{Expression, tall, leaf, bracketed, before, bet
 use Rattle.jl_module.specs.Headings.{Definition, LineReading, bad, good, definition_in}
 use Rattle.jl_builtins.specs.declared.left_side.Settled.{Settled}
 use Rattle.jl_builtins.specs.declared.left_side.Settled.TheVariants.{Known, Open, Wrong, Both}
-use Rattle.jl_builtins.specs.Steps.{Ran, done, failed, then', counted, operated}
+use Rattle.jl_operands.specs.Steps.{Ran, done, failed, then', counted, operated}
 use Rattle.jl_builtins.specs.Operations.{operation, prefixed, element_of, settle}
 use Rattle.jl_builtins.specs.Calls.{call_value, range_of}
-use Rattle.jl_builtins.specs.Lists.{source_of, each_over, filtered_over, over, with_entry}
+use Rattle.jl_operands.specs.Lists.{source_of, each_over, filtered_over, over, with_entry}
 
 -- the argument of a name
 abbrev pub argument : List ℕ → List (List ℕ × Tree) → Option Tree

@@ -1,12 +1,12 @@
 -- What the evaluation of an expression answers.
 use Rattle.std.specs.Prelude.{◌≡◌, ℕ, List, ⊤}
 use Rattle.jl_value.specs.Tree.{Tree}
-use Rattle.jl_value.specs.Form.{trees_of}
+use Rattle.jl_operands.specs.Operands.{trees_gathered}
 use Rattle.jl_value.specs.Library.{Answer, error}
-use Rattle.jl_builtins.specs.declared.fault.CallFault.{CallFault}
-use Rattle.jl_builtins.specs.declared.fault.CallFault.TheVariants.{Task, NoMemory}
-use Rattle.jl_builtins.specs.Steps.{Ran, failed}
-use Rattle.jl_builtins.specs.Lists.{taking}
+use Rattle.jl_operands.specs.declared.fault.CallFault.{CallFault}
+use Rattle.jl_operands.specs.declared.fault.CallFault.TheVariants.{Task, NoMemory}
+use Rattle.jl_operands.specs.Steps.{Ran, failed}
+use Rattle.jl_operands.specs.Lists.{taking}
 use Rattle.jl_lang.specs.declared.evaluator.Members.{Members}
 
 -- the error of a call
@@ -16,7 +16,7 @@ IsError NoMemory a = ⊤
 
 -- the members of a list so far, behind one more that its condition may let through
 abbrev pub IsTaken : Members → (ℕ → Ran) → (ℕ → Ran) → List Tree → ℕ → Type 0
-IsTaken t if_so of vs n = (rest : List Tree → ℕ → Ran) → taking if_so of vs n rest ≡ rest (trees_of t.values.items) t.steps
+IsTaken t if_so of vs n = (rest : List Tree → ℕ → Ran) → taking if_so of vs n rest ≡ rest (trees_gathered t.values) t.steps
 
 -- why there is no such member
 abbrev pub IsLeft : CallFault → (ℕ → Ran) → (ℕ → Ran) → List Tree → ℕ → Type 0

@@ -1,22 +1,25 @@
 // The value of an expression, and the count of the steps to it.
 ghost use Rattle.std.specs.Prelude.{◌∷◌, [], Some, None, MatchResult};
 ghost use Rattle.jl_value.specs.Form.{tree_of, trees_of};
+ghost use Rattle.jl_value.specs.Tree.{whole};
 ghost use Rattle.jl_lexer.specs.Words.{constant_of};
 ghost use Rattle.jl_syntax.specs.Trees.{before as before_tree, between as between_tree, choice as choice_tree, index as index_tree, call as call_tree, span as span_tree, each as each_tree, filtered as filtered_tree, members_of, entries_of as entries_in};
 ghost use Rattle.jl_builtins.specs.declared.left_side.Settled.TheVariants.{Both};
 ghost use Rattle.jl_lang.specs.Meaning.{argument as argument_of, named as named_of, word_value as word_value_of, truth_counted as truth_counted_of, again, settled as settled_of, value_of, members_value, entries_value};
 ghost use Rattle.jl_builtins.specs.Operations.{settle as settle_of};
 ghost use Rattle.jl_lang.specs.Scopes.{scope_of};
-ghost use Rattle.jl_builtins.specs.Lists.{each_over as each_over_of, filtered_over as filtered_over_of};
-ghost use Rattle.jl_builtins.specs.Outcomes.{Runs};
+ghost use Rattle.jl_operands.specs.Lists.{each_over as each_over_of, filtered_over as filtered_over_of, wholes};
+ghost use Rattle.jl_operands.specs.Operands.{tree_of_operand, trees_gathered};
+ghost use Rattle.jl_operands.specs.Outcomes.{Runs};
 ghost use Rattle.jl_lang.specs.Outcomes.{IsTaken, IsLeft};
 
 use crate::scope::Scope;
-use jl_builtins::{
-    CallFault, Counted, Settled, Steps, call, count_copy, count_list, count_table, count_value,
-    element, operate, operate_prefix, settle, source, span,
-};
+use jl_builtins::{Settled, call, element, operate, operate_prefix, settle, span};
 use jl_lexer::{Function, Key, Name, Operator, Prefix, Word};
+use jl_operands::{
+    CallFault, Counted, Gathered, Operand, Steps, count_copy, count_list, count_operand,
+    count_table, count_value, source,
+};
 use jl_syntax::{Node, Tree};
 use jl_value::{TaskError, Value};
 use std::alloc::Global;
@@ -25,7 +28,7 @@ use std::collections::BTreeMap;
 /// The members of a list so far, and the count of steps.
 #[derive(Drop)]
 pub(crate) struct Members {
-    values: Vec<Value>,
+    values: Gathered,
     steps: Steps,
 }
 
@@ -54,11 +57,11 @@ fn word_value(alloc: Global, scope: &Scope, word: &Word, steps: Steps) -> Result
 }
 
 fn count_truth(right: Counted) -> Result<Counted, CallFault>
-    ensures { Runs result (truth_counted_of (tree_of right.value) right.steps) }
+    ensures { Runs result (truth_counted_of (tree_of_operand right.value) right.steps) }
 {
-    match right.value {
-        Value::Truth(truth) => count_value(Value::Truth(truth), right.steps),
-        _ => Err(CallFault::Task(TaskError::BadKind)),
+    match right.value.as_truth() {
+        Some(truth) => count_value(Value::Truth(truth), right.steps),
+        None => Err(CallFault::Task(TaskError::BadKind)),
     }
 }
 
@@ -81,12 +84,12 @@ fn both(
     alloc: Global,
     scope: &Scope,
     operator: Operator,
-    left: &Value,
+    left: &Operand,
     right: &Tree,
     steps: Steps,
 ) -> Result<Counted, CallFault>
     ensures { Runs result
-        (settled_of operator (tree_of left.now) Both steps
+        (settled_of operator (tree_of_operand left.now) Both steps
         (value_of (scope_of scope.now) right.now)) }
 {
     let right = evaluate(alloc, scope, right, steps)?;
@@ -98,12 +101,12 @@ fn behind_left(
     alloc: Global,
     scope: &Scope,
     operator: Operator,
-    left: &Value,
+    left: &Operand,
     right: &Tree,
     steps: Steps,
 ) -> Result<Counted, CallFault>
     ensures { Runs result
-        (settled_of operator (tree_of left.now) (settle_of operator (tree_of left.now)) steps
+        (settled_of operator (tree_of_operand left.now) (settle_of operator (tree_of_operand left.now)) steps
         (value_of (scope_of scope.now) right.now)) }
 {
     match settle(operator, left) {
@@ -140,7 +143,7 @@ fn count_again(
     ensures { Runs result (again (value_of (scope_of scope.now) tree.now steps)) }
 {
     let value = evaluate(alloc, scope, tree, steps)?;
-    count_value(value.value, value.steps)
+    count_operand(value.value, value.steps)
 }
 
 #[cycle(evaluate)]
@@ -156,10 +159,10 @@ fn choice(
         (value_of (scope_of scope.now) (choice_tree first.now condition.now last.now) steps) }
 {
     let condition = evaluate(alloc, scope, condition, steps)?;
-    match condition.value {
-        Value::Truth(true) => count_again(alloc, scope, first, condition.steps),
-        Value::Truth(false) => count_again(alloc, scope, last, condition.steps),
-        _ => Err(CallFault::Task(TaskError::BadKind)),
+    match condition.value.as_truth() {
+        Some(true) => count_again(alloc, scope, first, condition.steps),
+        Some(false) => count_again(alloc, scope, last, condition.steps),
+        None => Err(CallFault::Task(TaskError::BadKind)),
     }
 }
 
@@ -216,11 +219,11 @@ fn list_value(
 ) -> Result<Counted, CallFault>
     ensures { Runs result (members_value (scope_of scope.now) (members_of members.now) [] start) }
 {
-    let mut values = Vec::new(alloc);
+    let mut values = Gathered::new(alloc);
     let mut steps = start;
     for member in members {
         let value = evaluate(alloc, scope, member, steps)?;
-        values.push(value.value)?;
+        values = values.push(alloc, value.value)?;
         steps = value.steps;
     }
     count_list(values, steps)
@@ -239,14 +242,15 @@ fn table_value(
     let mut steps = start;
     for (key, member) in entries {
         let value = evaluate(alloc, scope, member, steps)?;
-        members.insert(key.text().copy()?.into_string(), value.value)?;
+        let member = value.value.into_value(alloc)?;
+        members.insert(key.text().copy()?.into_string(), member)?;
         steps = value.steps;
     }
     count_table(alloc, members, steps)
 }
 
 #[cycle(evaluate)]
-fn list_over<'a>(
+fn list_over_values<'a>(
     alloc: Global,
     scope: &'a Scope<'a>,
     member: &Tree,
@@ -258,15 +262,79 @@ fn list_over<'a>(
         (each_over_of (λ u k. value_of ((variable.now, u) ∷ scope_of scope.now) member.now k)
         (trees_of items.now) [] start) }
 {
-    let mut values = Vec::new(alloc);
+    let mut values = Gathered::new(alloc);
     let mut steps = start;
     for item in items {
         let inner = Scope::Variable(variable, item, scope);
         let value = evaluate(alloc, &inner, member, steps)?;
-        values.push(value.value)?;
+        values = values.push(alloc, value.value)?;
         steps = value.steps;
     }
     count_list(values, steps)
+}
+
+// The value of an expression where a variable stands for a whole number.
+#[cycle(evaluate)]
+fn at_number(
+    alloc: Global,
+    scope: &Scope,
+    member: &Tree,
+    variable: &[u8],
+    number: i64,
+    steps: Steps,
+) -> Result<Counted, CallFault>
+    ensures { Runs result
+        (value_of ((variable.now, whole number) ∷ scope_of scope.now) member.now steps) }
+{
+    let item = Value::Whole(number);
+    let inner = Scope::Variable(&*variable, &item, &*scope);
+    evaluate(alloc, &inner, member, steps)
+}
+
+#[cycle(evaluate)]
+fn list_over_numbers(
+    alloc: Global,
+    scope: &Scope,
+    member: &Tree,
+    variable: &[u8],
+    numbers: &[i64],
+    start: Steps,
+) -> Result<Counted, CallFault>
+    ensures { Runs result
+        (each_over_of (λ u k. value_of ((variable.now, u) ∷ scope_of scope.now) member.now k)
+        (wholes numbers.now) [] start) }
+{
+    let mut values = Gathered::new(alloc);
+    let mut steps = start;
+    for number in numbers {
+        let value = at_number(alloc, scope, member, variable, *number, steps)?;
+        values = values.push(alloc, value.value)?;
+        steps = value.steps;
+    }
+    count_list(values, steps)
+}
+
+#[cycle(evaluate)]
+fn list_over(
+    alloc: Global,
+    scope: &Scope,
+    member: &Tree,
+    variable: &[u8],
+    items: &Gathered,
+    start: Steps,
+) -> Result<Counted, CallFault>
+    ensures { Runs result
+        (each_over_of (λ u k. value_of ((variable.now, u) ∷ scope_of scope.now) member.now k)
+        (trees_gathered items.now) [] start) }
+{
+    match items {
+        Gathered::Wholes(numbers) => {
+            list_over_numbers(alloc, scope, member, variable, numbers.as_slice(), start)
+        }
+        Gathered::Values(values) => {
+            list_over_values(alloc, &*scope, member, variable, values.as_slice(), start)
+        }
+    }
 }
 
 #[cycle(evaluate)]
@@ -282,15 +350,8 @@ fn list_of_each(
         (value_of (scope_of scope.now) (each_tree member.now variable.now over.now) steps) }
 {
     let over = evaluate(alloc, scope, over, steps)?;
-    let items = source(alloc, over.value)?;
-    list_over(
-        alloc,
-        &*scope,
-        member,
-        variable.bytes(),
-        items.as_slice(),
-        over.steps,
-    )
+    let items = source(over.value)?;
+    list_over(alloc, scope, member, variable.bytes(), &items, over.steps)
 }
 
 // The values so far and one more, if the condition lets it through.
@@ -300,36 +361,34 @@ fn take_member(
     inner: &Scope,
     member: &Tree,
     condition: &Tree,
-    values: Vec<Value>,
+    values: Gathered,
     steps: Steps,
 ) -> Result<Members, CallFault>
     ensures { MatchResult result
         (λ t. IsTaken t (value_of (scope_of inner.now) condition.now)
-        (value_of (scope_of inner.now) member.now) (trees_of values.items) steps)
+        (value_of (scope_of inner.now) member.now) (trees_gathered values) steps)
         (λ e. IsLeft e (value_of (scope_of inner.now) condition.now)
-        (value_of (scope_of inner.now) member.now) (trees_of values.items) steps) }
+        (value_of (scope_of inner.now) member.now) (trees_gathered values) steps) }
 {
-    let mut values = values;
     let condition = evaluate(alloc, inner, condition, steps)?;
-    match condition.value {
-        Value::Truth(true) => {
+    match condition.value.as_truth() {
+        Some(true) => {
             let value = evaluate(alloc, inner, member, condition.steps)?;
-            values.push(value.value)?;
             Ok(Members {
-                values,
+                values: values.push(alloc, value.value)?,
                 steps: value.steps,
             })
         }
-        Value::Truth(false) => Ok(Members {
+        Some(false) => Ok(Members {
             values,
             steps: condition.steps,
         }),
-        _ => Err(CallFault::Task(TaskError::BadKind)),
+        None => Err(CallFault::Task(TaskError::BadKind)),
     }
 }
 
 #[cycle(evaluate)]
-fn filter_over<'a>(
+fn filter_over_values<'a>(
     alloc: Global,
     scope: &'a Scope<'a>,
     member: &Tree,
@@ -344,7 +403,7 @@ fn filter_over<'a>(
         (λ u k. value_of ((variable.now, u) ∷ scope_of scope.now) member.now k)
         (trees_of items.now) [] start) }
 {
-    let mut values = Vec::new(alloc);
+    let mut values = Gathered::new(alloc);
     let mut steps = start;
     for item in items {
         let inner = Scope::Variable(variable, item, scope);
@@ -353,6 +412,94 @@ fn filter_over<'a>(
         steps = more.steps;
     }
     count_list(values, steps)
+}
+
+// The values so far and one more, where a variable stands for a whole number.
+#[cycle(evaluate)]
+fn take_number(
+    alloc: Global,
+    scope: &Scope,
+    member: &Tree,
+    variable: &[u8],
+    number: i64,
+    condition: &Tree,
+    so_far: Members,
+) -> Result<Members, CallFault>
+    ensures { MatchResult result
+        (λ t. IsTaken t (value_of ((variable.now, whole number) ∷ scope_of scope.now) condition.now)
+        (value_of ((variable.now, whole number) ∷ scope_of scope.now) member.now)
+        (trees_gathered so_far.values) so_far.steps)
+        (λ e. IsLeft e (value_of ((variable.now, whole number) ∷ scope_of scope.now) condition.now)
+        (value_of ((variable.now, whole number) ∷ scope_of scope.now) member.now)
+        (trees_gathered so_far.values) so_far.steps) }
+{
+    let item = Value::Whole(number);
+    let inner = Scope::Variable(&*variable, &item, &*scope);
+    take_member(alloc, &inner, member, condition, so_far.values, so_far.steps)
+}
+
+#[cycle(evaluate)]
+fn filter_over_numbers(
+    alloc: Global,
+    scope: &Scope,
+    member: &Tree,
+    variable: &[u8],
+    numbers: &[i64],
+    condition: &Tree,
+    start: Steps,
+) -> Result<Counted, CallFault>
+    ensures { Runs result
+        (filtered_over_of
+        (λ u k. value_of ((variable.now, u) ∷ scope_of scope.now) condition.now k)
+        (λ u k. value_of ((variable.now, u) ∷ scope_of scope.now) member.now k)
+        (wholes numbers.now) [] start) }
+{
+    let mut taken = Members {
+        values: Gathered::new(alloc),
+        steps: start,
+    };
+    for number in numbers {
+        taken = take_number(alloc, scope, member, variable, *number, condition, taken)?;
+    }
+    count_list(taken.values, taken.steps)
+}
+
+#[cycle(evaluate)]
+fn filter_over(
+    alloc: Global,
+    scope: &Scope,
+    member: &Tree,
+    variable: &[u8],
+    items: &Gathered,
+    condition: &Tree,
+    start: Steps,
+) -> Result<Counted, CallFault>
+    ensures { Runs result
+        (filtered_over_of
+        (λ u k. value_of ((variable.now, u) ∷ scope_of scope.now) condition.now k)
+        (λ u k. value_of ((variable.now, u) ∷ scope_of scope.now) member.now k)
+        (trees_gathered items.now) [] start) }
+{
+    match items {
+        Gathered::Wholes(numbers) => filter_over_numbers(
+            alloc,
+            scope,
+            member,
+            variable,
+            numbers.as_slice(),
+            condition,
+            start,
+        ),
+        Gathered::Values(values) => filter_over_values(
+            alloc,
+            &*scope,
+            member,
+            variable,
+            values.as_slice(),
+            condition,
+            start,
+        ),
+    }
 }
 
 #[cycle(evaluate)]
@@ -370,13 +517,13 @@ fn list_of_some(
         (filtered_tree member.now variable.now over.now condition.now) steps) }
 {
     let over = evaluate(alloc, scope, over, steps)?;
-    let items = source(alloc, over.value)?;
+    let items = source(over.value)?;
     filter_over(
         alloc,
-        &*scope,
+        scope,
         member,
         variable.bytes(),
-        items.as_slice(),
+        &items,
         condition,
         over.steps,
     )

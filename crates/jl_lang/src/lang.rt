@@ -3,15 +3,16 @@ ghost use Rattle.std.specs.Prelude.{◌≡◌, [], Some, MatchResult, IfOk, map,
 ghost use Rattle.jl_value.specs.Form.{tree_of, entries_of};
 ghost use Rattle.jl_value.specs.Canonical.{text_of};
 ghost use Rattle.jl_value.specs.Library.{value as answered_value, IfDone};
-ghost use Rattle.jl_builtins.specs.Steps.{done};
+ghost use Rattle.jl_operands.specs.Steps.{done};
+ghost use Rattle.jl_operands.specs.Operands.{tree_of_operand};
 ghost use Rattle.jl_lang.specs.Meaning.{has_argument as has_argument_of, has_arguments as has_arguments_of, has_parameters as has_parameters_of, limited as limited_of, called as called_of, answer_of, value_of};
 ghost use Rattle.jl_module.specs.Lines.{definition_read};
 ghost use Rattle.jl_lang.specs.Outcomes.{IsError};
 
 use crate::evaluator::evaluate;
 use crate::scope::Scope;
-use jl_builtins::{CallFault, Counted, Steps, nests_within};
 use jl_module::{Definition, LineFault, Names, find, module_fault, read_definition};
+use jl_operands::{CallFault, Counted, Steps, nests_within};
 use jl_syntax::Tree;
 use jl_text::Text;
 use jl_value::{Args, Called, CodeRef, Library, Outcome, ReadModule, TaskError, Value, canonical};
@@ -79,10 +80,10 @@ fn text_length(alloc: Global, value: &Value) -> Result<usize, AllocError>
 
 fn keep_limits(alloc: Global, ran: Counted) -> Result<Value, CallFault>
     ensures { MatchResult result
-        (λ v. limited_of (done (tree_of ran.value) ran.steps) ≡ answered_value (tree_of v))
-        (λ e. IsError e (limited_of (done (tree_of ran.value) ran.steps))) }
+        (λ v. limited_of (done (tree_of_operand ran.value) ran.steps) ≡ answered_value (tree_of v))
+        (λ e. IsError e (limited_of (done (tree_of_operand ran.value) ran.steps))) }
 {
-    let value = ran.value;
+    let value = ran.value.into_value(alloc)?;
     if !nests_within(&value, 64) {
         return Err(CallFault::Task(TaskError::TooDeep));
     }

@@ -2,9 +2,9 @@
 ghost use Rattle.std.specs.Prelude.{◌≡◌, ◌≤◌, ◌∷◌, ℕ, List, length, Some};
 ghost use Rattle.jl_value.specs.Tree.{Tree, Items, list};
 ghost use Rattle.jl_syntax.specs.Trees.{Expression, each, filtered};
-ghost use Rattle.jl_builtins.specs.Steps.{done};
+ghost use Rattle.jl_operands.specs.Steps.{done};
 ghost use Rattle.jl_builtins.specs.Operations.{items_length};
-ghost use Rattle.jl_builtins.specs.Lists.{source_of, LetsThrough};
+ghost use Rattle.jl_operands.specs.Lists.{source_of, LetsThrough};
 ghost use Rattle.jl_value.specs.Key.{args_tree};
 ghost use Rattle.jl_value.specs.Proper.{IsProper};
 ghost use Rattle.jl_value.specs.Library.{IsWithin};

@@ -2,7 +2,7 @@ use Rattle.std.proofs.Common.{[], refl, sym, ap, ◌∙◌}
 use Rattle.std.specs.Prelude.{Some, None}
 use Rattle.jl_value.specs.Tree.{items_of}
 use Rattle.jl_value.specs.Form.{trees_of}
-use Rattle.jl_builtins.specs.Steps.{operated}
+use Rattle.jl_operands.specs.Steps.{operated}
 use Rattle.jl_builtins.proofs.CallLemmas.{array_made, array_long, no_array}
 use Rattle.jl_builtins.proofs.calls.array_of.Goals as goal
 

@@ -1,8 +1,8 @@
 use Rattle.std.proofs.Common.{List, ◌++◌, ◌+◌, length, min, sym, ap, ◌∙◌}
 use Rattle.std.specs.Prelude.{ℤ, Some, None}
 use Rattle.jl_value.specs.Tree.{numbers}
-use Rattle.jl_builtins.specs.Steps.{done}
-use Rattle.jl_builtins.proofs.CountLemmas.{counted_is, arrays_weight}
+use Rattle.jl_operands.specs.Steps.{done}
+use Rattle.jl_operands.proofs.CountLemmas.{counted_is, arrays_weight}
 use Rattle.jl_builtins.proofs.operations.add_arrays.Goals as goal
 
 pub returns-in_ok-join_arrays-in-Some : goal.returns-in_ok-join_arrays-in-Some

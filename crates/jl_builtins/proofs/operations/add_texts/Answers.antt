@@ -1,8 +1,8 @@
 use Rattle.std.proofs.Common.{List, ℕ, ◌+◌, ◌++◌, length, min, sym, ap, ◌∙◌}
 use Rattle.std.specs.Prelude.{Some, None}
 use Rattle.jl_value.specs.Tree.{text}
-use Rattle.jl_builtins.specs.Steps.{done}
-use Rattle.jl_builtins.proofs.CountLemmas.{counted_is, texts_weight}
+use Rattle.jl_operands.specs.Steps.{done}
+use Rattle.jl_operands.proofs.CountLemmas.{counted_is, texts_weight}
 use Rattle.jl_builtins.proofs.operations.add_texts.Goals as goal
 
 pub returns-in_ok-join_texts-in-Some : goal.returns-in_ok-join_texts-in-Some

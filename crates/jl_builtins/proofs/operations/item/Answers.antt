@@ -2,8 +2,8 @@ use Rattle.std.proofs.Common.{refl, length, sym, ap, ◌∙◌, w64}
 use Rattle.std.proofs.lemmas.Int.{to_z-of_z}
 use Rattle.jl_value.specs.Form.{tree_of}
 use Rattle.jl_builtins.specs.Operations.{place_of}
-use Rattle.jl_builtins.specs.Steps.{operated}
-use Rattle.jl_builtins.proofs.CountLemmas.{runs_by}
+use Rattle.jl_operands.specs.Steps.{operated}
+use Rattle.jl_operands.proofs.CountLemmas.{runs_by}
 use Rattle.jl_builtins.proofs.OperationLemmas.{item_placed, item_missing}
 use Rattle.jl_builtins.proofs.operations.item.Goals as goal
 
