@@ -1,16 +1,16 @@
 -- Lists of whole numbers that are kept as such, as trees.
-use Rattle.std.proofs.Common.{◌≡◌, ◌≢◌, ℕ, zero, suc, ◌+◌, ◌≤◌, Bool, true, false, ◌&&◌, List, [], ◌∷◌, ◌++◌, length, min, refl, sym, ap, ◌∙◌, subst, arith, append_assoc, append-nil}
-use Rattle.std.specs.Prelude.{Option, Some, None, Result, Ok, Err, ℤ, pos, ◌+ℤ◌}
+use Rattle.std.proofs.Common.{◌≡◌, ◌≢◌, ℕ, zero, suc, Bool, true, false, ◌&&◌, List, [], ◌∷◌, ◌++◌, length, refl, sym, ap, ◌∙◌, subst, append_assoc, append-nil}
+use Rattle.std.specs.Prelude.{Option, Some, None, Result, Ok, ℤ, ◌+ℤ◌}
 use Rattle.std.specs.Ordering.{int_eq}
 use Rattle.jl_value.specs.declared.library.TaskError.{TaskError}
-use Rattle.jl_value.specs.Tree.{Tree, whole, list, numbers, Items, no_items, item, items_of, list_of}
+use Rattle.jl_value.specs.Tree.{Tree, whole, numbers, items_of}
 use Rattle.jl_value.specs.Form.{tree_of, trees_of}
 use Rattle.jl_value.specs.Same.{tree_eq, items_eq, wholes_eq}
 use Rattle.jl_value.specs.declared.value.Value.{Value}
 use Rattle.jl_lexer.specs.declared.operators.Function.TheVariants.{Array}
 use Rattle.jl_numbers.specs.Division.{within_64}
 use Rattle.jl_operands.specs.declared.fault.CallFault.{CallFault}
-use Rattle.jl_operands.specs.Steps.{items_weight, counted, operated, weight}
+use Rattle.jl_operands.specs.Steps.{counted, operated}
 use Rattle.jl_builtins.specs.Operations.{items_length, item_at, number_at, place_of, at_place}
 use Rattle.jl_builtins.specs.Calls.{sum_behind, numbers_sum, items_sum, better, numbers_best, items_best, first_best, first_number, array_behind, call_value}
 use Rattle.jl_operands.specs.Lists.{wholes}

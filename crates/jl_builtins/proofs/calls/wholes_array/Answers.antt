@@ -1,7 +1,5 @@
-use Rattle.std.proofs.Common.{List, sym, ap, ◌∙◌}
-use Rattle.std.specs.Prelude.{ℤ, Some, None}
+use Rattle.std.specs.Prelude.{None}
 use Rattle.jl_value.specs.Tree.{numbers}
-use Rattle.jl_operands.specs.Steps.{done}
 use Rattle.jl_operands.proofs.CountLemmas.{counted_is}
 use Rattle.jl_builtins.proofs.calls.wholes_array.Goals as goal
 

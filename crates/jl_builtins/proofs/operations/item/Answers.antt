@@ -1,6 +1,5 @@
 use Rattle.std.proofs.Common.{refl, length, sym, ap, ◌∙◌, w64}
 use Rattle.std.proofs.lemmas.Int.{to_z-of_z}
-use Rattle.jl_value.specs.Form.{tree_of}
 use Rattle.jl_builtins.specs.Operations.{place_of}
 use Rattle.jl_operands.specs.Steps.{operated}
 use Rattle.jl_operands.proofs.CountLemmas.{runs_by}
