@@ -11,7 +11,6 @@ use Rattle.jl_store.specs.declared.memory.Warning.{Warning}
 use Rattle.jl_store.specs.Warnings.{warning_text}
 use Rattle.jl_cmd.specs.Texts.{warning_lines}
 use Rattle.jl_cmd.specs.Course.{Course}
-use Rattle.jl_cmd.specs.Saying.{GivenLines}
 use Rattle.jl_folder.specs.State.{Trace}
 use Rattle.jl_folder.specs.Views.{FolderView, state, moved}
 use Rattle.jl_folder.specs.Reading.{ReadsNamed}
@@ -28,20 +27,18 @@ use Rattle.jl_words.proofs.Targeted.{all_targets}
 use Rattle.jl_words.specs.declared.types.Settings.{Settings}
 use Rattle.jl_words.specs.declared.types.Settings.TheVariants.{Call, Hash, Parallel, Session, Clear, ReduceSize, Worker, Tracker, Gen}
 use Rattle.jl_cmd.specs.Commands.{Command, call, hash, clear, reduce_size, tracker, command_of}
-use Rattle.jl_cmd.specs.Resting.{Trusted, OthersAreLawful, GivenHasModule}
-use Rattle.jl_cmd.specs.Caches.{RunsLawfully}
+use Rattle.jl_cmd.specs.Needs.{needs_of, GivenHasModule}
+use Rattle.jl_cmd.specs.Premise.{Premise}
+use Rattle.jl_cmd.specs.Caches.{CallsIn}
+use Rattle.jl_store.specs.Trust.{IsTrusted}
 use Rattle.jl_cmd.specs.Endings.{ReadFrom}
 
--- where others keep their rules and this run its own, the cache may be trusted
-pub trusting : (s : Command) (w : Course) → OthersAreLawful s w → (w.folder.told → RunsLawfully (Some s) w) → Trusted s w
+-- where others keep their rules and this call its own, the cache may be trusted
+pub trusting : (file location : PathView) (name args : List ℕ) (w : Course) → Premise (needs_of (call file location name args)) w → (w.folder.told → CallsIn file location name w.means.answer w.folder w.folder') → IsTrusted (root_of location) w.means.answer w.folder w.folder'
 unfolding LawfulThroughout
-trusting (call file location name args) w theirs mine =
+trusting file location name args w theirs mine =
     let P = IsLawful (root_of location) w.means.answer in
-    (theirs.told, theirs.sound, with_others P w.folder.token (state w.folder) (moved w.folder w.folder') (λ t. same_token t w.folder.token) ((mine theirs.told).own.lawful theirs.sound) theirs.others)
-trusting (hash args) w theirs mine = tt
-trusting (clear location m f key) w theirs mine = tt
-trusting (reduce_size location limits) w theirs mine = tt
-trusting tracker w theirs mine = theirs.input
+    (theirs.told, theirs.sound, with_others P w.folder.token (state w.folder) (moved w.folder w.folder') (λ t. same_token t w.folder.token) ((mine theirs.told).lawful theirs.sound) theirs.others)
 
 -- ---- the module file of a command
 
@@ -93,15 +90,6 @@ lines-snoc m (x ∷ xs) w =
 -- the name of a function that is defined is a name
 pub defined_named : (code : List ℕ → List ℕ → Option (List ℕ)) → ((m n c : List ℕ) → code m n ≡ Some c → IsTrue (is_name n)) → (m n : List ℕ) → IsSome (code m n) → IsTrue (is_name n)
 defined_named code law m n is = let h = some_of (code m n) is in law m n h.0 h.1
-
--- no lines of warnings
-pub no_lines : (given : Option Command) (w : Course) (lines : List ℕ) → lines ≡ [] → GivenLines given w lines
-no_lines None w lines none = none
-no_lines (Some (call file location name args)) w lines none = λ m is. ([], none, inl refl)
-no_lines (Some (hash args)) w lines none = none
-no_lines (Some (clear location m f key)) w lines none = none
-no_lines (Some (reduce_size location limits)) w lines none = none
-no_lines (Some tracker) w lines none = none
 
 -- what was read in a first call was read in both
 pub reads_over : (path : PathView) (m bytes : List ℕ) (old mid new : FolderView) → bytes ≡ m → GoesOn old mid → GoesOn mid new → ReadsNamed path 1048577 bytes (state old) (moved old mid) → ReadFrom path m old new

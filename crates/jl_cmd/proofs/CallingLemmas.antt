@@ -37,14 +37,14 @@ use Rattle.jl_cmd.specs.declared.computed.Computed.{Computed}
 use Rattle.jl_cmd.specs.declared.computed.Computed.TheVariants as computed
 use Rattle.jl_cmd.specs.declared.ended.Ended.{Ended}
 use Rattle.jl_cmd.specs.declared.ended.Ended.TheVariants.{Done, Failed, Usage, Refused, ReadFault, WriteFault, NoMemory, NoModule, FolderFault}
-use Rattle.jl_cmd.specs.Commands.{Command, call, hash, clear as clears, reduce_size, tracker}
-use Rattle.jl_cmd.specs.Course.{Meanings, Stretch, stretch, Course, stretch_of}
+use Rattle.jl_cmd.specs.Course.{Meanings, Stretch, stretch}
 use Rattle.jl_cmd.specs.Caches.{CallsLawfully}
 use Rattle.jl_cmd.specs.Endings.{ReadFrom, status_of}
-use Rattle.jl_cmd.specs.Run.{IsPrinted, IsFailed, IsRefused, WritesWarned}
+use Rattle.jl_cmd.specs.Computing.{IsPrinted, IsFailed, IsRefused, WritesWarned}
 use Rattle.jl_cmd.specs.Texts.{warning_lines}
 use Rattle.jl_cmd.specs.Calling.{Asks, asked_by, memory_at, CallWarns, AreOfCall, IsStatusOf, LeavesAsked, LeavesCalled, LeavesRead, ComputedAt, EndedAt}
-use Rattle.jl_cmd.specs.Saying.{CallSays, CallLeaves, GivenLeaves, StatusAt}
+use Rattle.jl_cmd.specs.Saying.{StatusAt}
+use Rattle.jl_cmd.specs.of.Call.{CallSays, CallLeaves}
 
 -- ---- claims on statuses
 
@@ -119,24 +119,10 @@ status_at NoMemory P h = λ n. absurd (neither 8 (λ e. omega arith) (λ e. omeg
 status_at NoModule P h = λ n. absurd (neither 9 (λ e. omega arith) (λ e. omega arith) n)
 status_at FolderFault P h = λ n. absurd (neither 10 (λ e. omega arith) (λ e. omega arith) n)
 
--- the same of what words give
-pub leaves_at : (given : Option Command) (w : Course) (e : Ended) (n : ℕ) → n ≡ status_of e → GivenLeaves given w (EndedAt e) → GivenLeaves given w (StatusAt n)
-leaves_at None w e n at h = tt
-leaves_at (Some (call file location name args)) w e n at h = λ told m is lone sound rose.
-    subst (λ (k : ℕ). StatusAt k (LeavesRead file (memory_at location m w.folder.token) name args (stretch_of w))) (sym at) (status_at e _ (h told m is lone sound rose))
-leaves_at (Some (hash args)) w e n at h = tt
-leaves_at (Some (clears location m f key)) w e n at h = tt
-leaves_at (Some (reduce_size location limits)) w e n at h = tt
-leaves_at (Some tracker) w e n at h = tt
-
--- where no command was run
-pub leaves_nothing : (given : Option Command) (w : Course) (e : Ended) → ((P : ℕ → Type 0) → EndedAt e P) → GivenLeaves given w (EndedAt e)
-leaves_nothing None w e none = tt
-leaves_nothing (Some (call file location name args)) w e none = λ told m is lone sound rose. none _
-leaves_nothing (Some (hash args)) w e none = tt
-leaves_nothing (Some (clears location m f key)) w e none = tt
-leaves_nothing (Some (reduce_size location limits)) w e none = tt
-leaves_nothing (Some tracker) w e none = tt
+-- what a lone call leaves, at the status of its ending
+pub leaves_at : (file location : PathView) (bytes name args : List ℕ) (v : Stretch) (e : Ended) (n : ℕ) → n ≡ status_of e → CallLeaves file location bytes name args v (EndedAt e) → CallLeaves file location bytes name args v (StatusAt n)
+leaves_at file location bytes name args v e n at h = λ told m is lone sound rose.
+    subst (λ (k : ℕ). StatusAt k (LeavesRead file (memory_at location m v.folder.token) bytes name args v)) (sym at) (status_at e _ (h told m is lone sound rose))
 
 -- ---- a lone call
 
@@ -225,25 +211,25 @@ module _ (v : Stretch) (mid : FolderView) (file location : PathView) (memory : M
     all_over (w ∷ ws) caused = ((caused.0.0, caused.0.1, caused_over w.kind caused.0.2), all_over ws caused.1)
 
   -- the lines of the warnings of the call
-  pub call_lines : (name args lines : List ℕ) (ended : Ended) (none items : List Warning) → none ≡ [] → (lines ≡ warning_lines memory.«module» items) ⊎ ((lines ≡ []) × (ended ≡ NoMemory)) → CallWarns v.means memory bytes name args mid v.folder' none items → CallSays file location name args v lines
+  pub call_lines : (name args lines : List ℕ) (ended : Ended) (none items : List Warning) → none ≡ [] → (lines ≡ warning_lines memory.«module» items) ⊎ ((lines ≡ []) × (ended ≡ NoMemory)) → CallWarns v.means memory bytes name args mid v.folder' none items → CallSays file location bytes name args v lines
   call_lines name args lines ended none items empty (inr silent) warns m is = ([], silent.0, inl refl)
   call_lines name args lines ended none items empty (inl said) warns m is =
       let same = named_memory memory file location m v.folder.token parts.located parts.named parts.by is in
       let added : items ≡ warns.0 = warns.1 ∙ ap (λ (l : List Warning). l ++ warns.0) empty in (
         items,
         said ∙ ap (λ (x : Memory). warning_lines x.«module» items) same,
-        subst (λ (x : Memory). AreOfCall v.means file x name args v.folder v.folder' items) same (of_call warns.0 added warns.2),
+        subst (λ (x : Memory). AreOfCall v.means file x bytes name args v.folder v.folder' items) same (of_call warns.0 added warns.2),
       )
     where
-      of_call : (added : List Warning) → items ≡ added → (added ≡ []) ⊎ ((q : Asks v.means bytes name args) × AreCaused added (asked_by v.means memory bytes name args q) mid v.folder') → AreOfCall v.means file memory name args v.folder v.folder' items
+      of_call : (added : List Warning) → items ≡ added → (added ≡ []) ⊎ ((q : Asks v.means bytes name args) × AreCaused added (asked_by v.means memory bytes name args q) mid v.folder') → AreOfCall v.means file memory bytes name args v.folder v.folder' items
       of_call added e (inl none) = inl (e ∙ none)
       of_call added e (inr h) =
           let a = asked_by v.means memory bytes name args h.0 in
-          inr (bytes, parts.reads, h.0, subst (λ (l : List Warning). AreCaused l a v.folder v.folder') (sym e) (all_over a (sym parts.by) added h.1))
+          inr (parts.reads, h.0, subst (λ (l : List Warning). AreCaused l a v.folder v.folder') (sym e) (all_over a (sym parts.by) added h.1))
 
   -- what a lone call left
   pub call_leaves : (name args : List ℕ) (c : Computed) → (mid.told → IsLone mid.token (moved mid v.folder') → IsSound (root_of memory.location) v.means.answer (state mid) → (Rose mid.faults v.folder'.faults → ⊥) → ComputedAt c (LeavesCalled memory bytes name args (after_reading v mid)))
-      → CallLeaves file location name args v (ComputedAt c)
+      → CallLeaves file location bytes name args v (ComputedAt c)
   call_leaves name args c leaves told m is lone sound rose =
       let same = named_memory memory file location m v.folder.token parts.located parts.named parts.by is in
       let each = lone_parts v.folder mid v.folder' (first told) (next told) lone in
@@ -251,7 +237,7 @@ module _ (v : Stretch) (mid : FolderView) (file location : PathView) (memory : M
       let sound' =
       subst (λ (s : State). IsSound (root_of memory.location) v.means.answer s) (sym still) (subst (λ (p : PathView). IsSound (root_of p) v.means.answer (state v.folder)) (sym parts.located) sound) in
       computed_map c _ _
-      (λ n h. (bytes, parts.reads told, subst (λ (x : Memory). LeavesCalled x bytes name args v n) same (h.0, leaves_over still (asked_by v.means memory bytes name args h.0) n h.1)))
+      (λ n h. (parts.reads told, subst (λ (x : Memory). LeavesCalled x bytes name args v n) same (h.0, leaves_over still (asked_by v.means memory bytes name args h.0) n h.1)))
       (leaves (parts.keeps.told told) each.1 sound' (λ r. rose (rose_over r)))
     where
       leaves_over : state mid ≡ state v.folder → (a : Asked) (n : ℕ) → LeavesAsked a (after_reading v mid) n → LeavesAsked a v n

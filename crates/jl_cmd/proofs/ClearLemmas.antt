@@ -7,7 +7,7 @@ use Rattle.jl_value.specs.declared.key.Key.{Key}
 use Rattle.jl_entry.specs.Names.{IsBelow, below, root_of}
 use Rattle.jl_clear.specs.Cleared.{ClearsPaths}
 use Rattle.jl_clear.specs.declared.removing.Clear.{Clear}
-use Rattle.jl_cmd.specs.Clears.{IsCleared}
+use Rattle.jl_cmd.specs.of.Clear.{IsCleared}
 
 module _ (location : PathView) (answer : Clear) (old new : FolderView) where
   abbrev Takes : Option (List ℕ) → Option (List ℕ) → Option Key → Type 0

@@ -34,15 +34,14 @@ use Rattle.jl_cmd.specs.declared.computed.Computed.{Computed}
 use Rattle.jl_cmd.specs.declared.computed.Computed.TheVariants as computed
 use Rattle.jl_cmd.specs.declared.ended.Ended.{Ended}
 use Rattle.jl_cmd.specs.declared.ended.Ended.TheVariants.{Done, Failed, Usage, Refused, ReadFault, WriteFault, NoMemory, NoModule, FolderFault}
-use Rattle.jl_cmd.specs.Commands.{Command, call, hash, clear, reduce_size, tracker}
-use Rattle.jl_cmd.specs.Course.{Stretch, Course, IsClear}
+use Rattle.jl_cmd.specs.Course.{Stretch, IsClear}
 use Rattle.jl_cmd.specs.Output.{Output}
 use Rattle.jl_cmd.specs.Endings.{status_of, last_text}
-use Rattle.jl_cmd.specs.Run.{Computes, IsPrinted, IsFailed, WritesWarned}
+use Rattle.jl_cmd.specs.Computing.{Computes, IsPrinted, IsFailed, WritesWarned}
 use Rattle.jl_cmd.specs.Texts.{warning_lines}
 use Rattle.jl_cmd.specs.Calling.{asked_by, memory_at, ComputedAt, EndedAt}
 use Rattle.jl_cmd.specs.Saying.{StatusAt}
-use Rattle.jl_cmd.specs.Coming.{ComesAsked, ComesCalled, ComesRead, CallComes, GivenComes, IsComputed, HasComputed, EndsWith, PutsOut}
+use Rattle.jl_cmd.specs.Coming.{ComesAsked, ComesCalled, ComesRead, CallComes, IsComputed, HasComputed, EndsWith, PutsOut}
 use Rattle.jl_cmd.proofs.CallingLemmas.{Parts, after_reading, first, next, all_over, computed_map, memory_at_end, named_memory, status_at}
 use Rattle.jl_cmd.proofs.IdleLemmas.{own_waits}
 
@@ -88,8 +87,8 @@ asked_as a v Puts Puts' n gives x = record {
   clock = x.clock;
 }
 
-put_as : (file : PathView) (memory : Memory) (name args : List ℕ) (v : Stretch) (Puts Puts' : Output → List Warning → Type 0) (n : ℕ) → ((o : Output) (added : List Warning) → Puts o added → Puts' o added) → ComesRead file memory name args v Puts n → ComesRead file memory name args v Puts' n
-put_as file memory name args v Puts Puts' n gives h = (h.0, h.1, (h.2.0, asked_as (asked_by v.means memory h.0 name args h.2.0) v Puts Puts' n gives h.2.1))
+put_as : (file : PathView) (memory : Memory) (bytes name args : List ℕ) (v : Stretch) (Puts Puts' : Output → List Warning → Type 0) (n : ℕ) → ((o : Output) (added : List Warning) → Puts o added → Puts' o added) → ComesRead file memory bytes name args v Puts n → ComesRead file memory bytes name args v Puts' n
+put_as file memory bytes name args v Puts Puts' n gives h = (h.0, (h.1.0, asked_as (asked_by v.means memory bytes name args h.1.0) v Puts Puts' n gives h.1.1))
 
 -- ---- what was written
 
@@ -115,13 +114,13 @@ module _ (out out' : SinkView) (lines m : List ℕ) (none items : List Warning) 
   }
 
   -- what was computed ended so
-  module _ (file : PathView) (memory : Memory) (name args : List ℕ) (v : Stretch) where
+  module _ (file : PathView) (memory : Memory) (bytes name args : List ℕ) (v : Stretch) where
     abbrev Came : (Output → List Warning → Type 0) → ℕ → Type 0
-    Came Puts n = ComesRead file memory name args v Puts n
+    Came Puts n = ComesRead file memory bytes name args v Puts n
 
     ended_with : (c : Computed) (e : Ended) → WritesWarned c e out out' → ComputedAt c (Came (HasComputed c none items)) → EndedAt e (Came (EndsWith e lines out out' m))
     ended_with c e (inr lost) h = memory_at_end e _ lost.0
-    ended_with (computed.Printed t) Done (inl x) h = put_as file memory name args v (HasComputed (computed.Printed t) none items) (EndsWith Done lines out out' m) 0 (done_with t x) h
+    ended_with (computed.Printed t) Done (inl x) h = put_as file memory bytes name args v (HasComputed (computed.Printed t) none items) (EndsWith Done lines out out' m) 0 (done_with t x) h
     ended_with (computed.Printed t) WriteFault (inl x) h = tt
     ended_with (computed.Printed t) (Failed u) (inl x) h = absurd x
     ended_with (computed.Printed t) Usage (inl x) h = tt
@@ -132,7 +131,7 @@ module _ (out out' : SinkView) (lines m : List ℕ) (none items : List Warning) 
     ended_with (computed.Printed t) FolderFault (inl x) h = tt
     ended_with (computed.Failed t) e (inl x) h =
         subst (λ (e' : Ended). EndedAt e' (Came (EndsWith e' lines out out' m))) (sym x.0)
-        (put_as file memory name args v (HasComputed (computed.Failed t) none items) (EndsWith (Failed t) lines out out' m) 1 (failed_so t x.1) h)
+        (put_as file memory bytes name args v (HasComputed (computed.Failed t) none items) (EndsWith (Failed t) lines out out' m) 1 (failed_so t x.1) h)
     ended_with (computed.Refused t) e (inl x) h = subst (λ (e' : Ended). EndedAt e' (Came (EndsWith e' lines out out' m))) (sym x.0) tt
     ended_with computed.NoMemory e (inl x) h = memory_at_end e _ x.0
 
@@ -201,32 +200,23 @@ module _ (v : Stretch) (mid : FolderView) (file location : PathView) (memory : M
       clears_over t (inr had) = inr (opened_later v.folder mid v.folder' (begins t) (goes t) _ _ had)
 
   -- the same of what was computed, at the module that was read first
-  call_comes : (name args : List ℕ) (Puts : Output → List Warning → Type 0) (c : Computed) → ComputedAt c (ComesCalled memory bytes name args (after_reading v mid) Puts) → (m : List ℕ) → module_name_of file ≡ Some m → ComputedAt c (ComesRead file (memory_at location m v.folder.token) name args v Puts)
+  call_comes : (name args : List ℕ) (Puts : Output → List Warning → Type 0) (c : Computed) → ComputedAt c (ComesCalled memory bytes name args (after_reading v mid) Puts) → (m : List ℕ) → module_name_of file ≡ Some m → ComputedAt c (ComesRead file (memory_at location m v.folder.token) bytes name args v Puts)
   call_comes name args Puts c comes m is =
       let same = named_memory memory file location m v.folder.token parts.located parts.named parts.by is in
       computed_map c _ _
-      (λ n h. (bytes, parts.reads, subst (λ (x : Memory). ComesCalled x bytes name args v Puts n) same (h.0, asked_later (asked_by v.means memory bytes name args h.0) (sym parts.by) Puts n h.1)))
+      (λ n h. (parts.reads, subst (λ (x : Memory). ComesCalled x bytes name args v Puts n) same (h.0, asked_later (asked_by v.means memory bytes name args h.0) (sym parts.by) Puts n h.1)))
       comes
 
   -- and of how it ended
   pub written_comes : (name args : List ℕ) (out out' : SinkView) (c : Computed) (ended : Ended) (lines : List ℕ) (none items : List Warning) → none ≡ [] → WritesWarned c ended out out' → (lines ≡ warning_lines memory.«module» items) ⊎ ((lines ≡ []) × (ended ≡ NoMemory))
-      → ComputedAt c (ComesCalled memory bytes name args (after_reading v mid) (HasComputed c none items)) → CallComes file location name args v (EndsWith ended lines out out') (EndedAt ended)
+      → ComputedAt c (ComesCalled memory bytes name args (after_reading v mid) (HasComputed c none items)) → CallComes file location bytes name args v (EndsWith ended lines out out') (EndedAt ended)
   written_comes name args out out' c ended lines none items empty writes (inr lost) comes m is = memory_at_end ended _ lost.1
   written_comes name args out out' c ended lines none items empty writes (inl said) comes m is =
       let same = named_memory memory file location m v.folder.token parts.located parts.named parts.by is in
-      ended_with out out' lines m none items empty (subst (λ (x : Memory). lines ≡ warning_lines x.«module» items) same said) file (memory_at location m v.folder.token) name args v c ended writes
+      ended_with out out' lines m none items empty (subst (λ (x : Memory). lines ≡ warning_lines x.«module» items) same said) file (memory_at location m v.folder.token) bytes name args v c ended writes
       (call_comes name args (HasComputed c none items) c comes m is)
 
 -- ---- the run
-
--- where no command was run
-pub comes_nothing : (given : Option Command) (w : Course) (Puts : List ℕ → Output → List Warning → Type 0) (e : Ended) → ((P : ℕ → Type 0) → EndedAt e P) → GivenComes given w Puts (EndedAt e)
-comes_nothing None w Puts e none = tt
-comes_nothing (Some (call file location name args)) w Puts e none = λ m is. none _
-comes_nothing (Some (hash args)) w Puts e none = tt
-comes_nothing (Some (clear location m f key)) w Puts e none = tt
-comes_nothing (Some (reduce_size location limits)) w Puts e none = tt
-comes_nothing (Some tracker) w Puts e none = tt
 
 -- from one claim to another, at a value and at an error
 ended_map : (e : Ended) (P Q : ℕ → Type 0) → ((n : ℕ) → P n → Q n) → EndedAt e P → EndedAt e Q
@@ -246,11 +236,11 @@ module _ (out out' err err' : SinkView) (lines : List ℕ) (e : Ended) (n : ℕ)
   put_out m o added h = record { bytes = h.bytes; texts = λ clear. text clear ∙ (λ i. err.written ++ (h.lines i ++ sym h.text i)) }
 
   -- what a call came to, once the texts are written
-  pub comes_at : (file location : PathView) (name args : List ℕ) (v : Stretch) → CallComes file location name args v (EndsWith e lines out out') (EndedAt e) → CallComes file location name args v (PutsOut out out' err err') (StatusAt n)
-  comes_at file location name args v comes = λ m is.
+  pub comes_at : (file location : PathView) (bytes name args : List ℕ) (v : Stretch) → CallComes file location bytes name args v (EndsWith e lines out out') (EndedAt e) → CallComes file location bytes name args v (PutsOut out out' err err') (StatusAt n)
+  comes_at file location bytes name args v comes = λ m is.
       let memory = memory_at location m v.folder.token in
-      subst (λ (k : ℕ). StatusAt k (ComesRead file memory name args v (PutsOut out out' err err' m))) (sym at)
+      subst (λ (k : ℕ). StatusAt k (ComesRead file memory bytes name args v (PutsOut out out' err err' m))) (sym at)
       (status_at e _
-      (ended_map e (ComesRead file memory name args v (EndsWith e lines out out' m)) (ComesRead file memory name args v (PutsOut out out' err err' m))
-      (λ k. put_as file memory name args v (EndsWith e lines out out' m) (PutsOut out out' err err' m) k (put_out m))
+      (ended_map e (ComesRead file memory bytes name args v (EndsWith e lines out out' m)) (ComesRead file memory bytes name args v (PutsOut out out' err err' m))
+      (λ k. put_as file memory bytes name args v (EndsWith e lines out out' m) (PutsOut out out' err err' m) k (put_out m))
       (comes m is)))

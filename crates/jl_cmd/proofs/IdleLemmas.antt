@@ -9,19 +9,14 @@ use Rattle.jl_rely.specs.Claims.{Silent}
 use Rattle.jl_rely.proofs.Since.{since_went, went_none}
 use Rattle.jl_rely.proofs.Composed.{went_waits}
 use Rattle.jl_rely.proofs.Traces.{foreign_own}
-use Rattle.jl_tracker.specs.declared.following.Tracked.{Tracked}
-use Rattle.jl_tracker.specs.declared.following.Tracked.TheVariants as tracked
 use Rattle.jl_cmd.specs.declared.computed.Computed.{Computed}
 use Rattle.jl_cmd.specs.declared.computed.Computed.TheVariants as computed
 use Rattle.jl_cmd.specs.declared.ended.Ended.{Ended}
 use Rattle.jl_cmd.specs.declared.ended.Ended.TheVariants.{Done, Failed, Usage, Refused, ReadFault, WriteFault, NoMemory, NoModule, FolderFault}
 use Rattle.jl_cmd.specs.Caches.{MakesNone}
-use Rattle.jl_cmd.specs.Clears.{EndsClearing}
 use Rattle.jl_cmd.specs.Endings.{status_of}
-use Rattle.jl_cmd.specs.Following.{EndsTracked}
 use Rattle.jl_cmd.specs.Uncalled.{IsUncalled}
-use Rattle.jl_cmd.specs.Reports.{EndsReducing}
-use Rattle.jl_cmd.specs.Run.{IsPrinted, IsFailed, IsRefusal, WritesWarned}
+use Rattle.jl_cmd.specs.Computing.{IsPrinted, IsFailed, IsRefusal, WritesWarned}
 use Rattle.jl_cmd.proofs.EndingLemmas.{none_of_five}
 
 pub printed_refuses : (c : Computed) → IsPrinted c → IsRefusal c → ⊥
@@ -103,34 +98,3 @@ own_none Kinds v = subst (OwnMoves v.token Kinds) (sym (since_went v v [] (went_
 
 pub silent_none : (v : FolderView) → MakesNone v v
 silent_none v = own_none Silent v
-
--- ---- the endings of the commands that take away
-
--- at a status at which none was called a clearing or a reducing had a fault of the folder, and the tracker too much input or a fault of the input
-pub clear_moves : (e : Ended) (old new : FolderView) → EndsClearing e old new → IsUncalled (status_of e) → status_of e ≢ 10 → ⊥
-clear_moves Done old new ends h other = done_may_call Done refl h
-clear_moves FolderFault old new ends h other = other refl
-clear_moves NoMemory old new ends h other = memory_may_call NoMemory refl h
-clear_moves (Failed t) old new ends h other = ends
-clear_moves Usage old new ends h other = ends
-clear_moves (Refused t) old new ends h other = ends
-clear_moves ReadFault old new ends h other = ends
-clear_moves WriteFault old new ends h other = ends
-clear_moves NoModule old new ends h other = ends
-
-pub reduce_moves : (e : Ended) (Reported : ℕ → ℕ → Type 0) (folder folder' : FolderView) (out out' : SinkView) → EndsReducing e Reported folder folder' out out' → IsUncalled (status_of e) → status_of e ≢ 10 → ⊥
-reduce_moves Done Reported folder folder' out out' ends h other = done_may_call Done refl h
-reduce_moves WriteFault Reported folder folder' out out' ends h other = write_may_call h
-reduce_moves FolderFault Reported folder folder' out out' ends h other = other refl
-reduce_moves NoMemory Reported folder folder' out out' ends h other = memory_may_call NoMemory refl h
-reduce_moves (Failed t) Reported folder folder' out out' ends h other = ends
-reduce_moves Usage Reported folder folder' out out' ends h other = ends
-reduce_moves (Refused t) Reported folder folder' out out' ends h other = ends
-reduce_moves ReadFault Reported folder folder' out out' ends h other = ends
-reduce_moves NoModule Reported folder folder' out out' ends h other = ends
-
-pub tracker_moves : (t : Tracked) (e : Ended) → EndsTracked t e → IsUncalled (status_of e) → status_of e ≢ 3 → status_of e ≢ 5 → ⊥
-tracker_moves tracked.Ended e ends h refused fault = done_may_call e ends h
-tracker_moves tracked.ReadFault e ends h refused fault = fault (ap status_of ends)
-tracker_moves (tracked.TooMuch line) e ends h refused fault = elim ends [ inl much ↦ refused (ap status_of much) | inr lost ↦ memory_may_call e lost h ]
-tracker_moves tracked.NoMemory e ends h refused fault = memory_may_call e ends h

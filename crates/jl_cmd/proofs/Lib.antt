@@ -7,7 +7,6 @@ pub mod ClearLemmas
 pub mod ComingLemmas
 pub mod EndingLemmas
 pub mod IdleLemmas
-pub mod MadeAnswers
 pub mod RanLemmas
 pub mod ReduceEnds
 pub mod ReportLemmas

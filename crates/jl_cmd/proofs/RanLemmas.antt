@@ -1,5 +1,5 @@
 -- What each command's own promises make of a run.
-use Rattle.std.proofs.Common.{◌≡◌, ◌∙◌, inl, inr, ℕ, ◌≤◌, List, [], ◌++◌, Option, Some, None, refl, sym, ap, subst, arith}
+use Rattle.std.proofs.Common.{◌≡◌, ◌∙◌, inl, inr, ℕ, ◌≤◌, List, [], ◌++◌, Option, Some, None, refl, sym, ap, subst, arith, append-nil}
 use Rattle.std.specs.Prelude.{⊤}
 use Rattle.jl_text.specs.Counts.{Faults, Rose}
 use Rattle.jl_text.specs.Paths.{PathView}
@@ -23,28 +23,28 @@ use Rattle.jl_evict.specs.Reducing.{IsOfEntry}
 use Rattle.jl_cmd.specs.declared.computed.Computed.{Computed}
 use Rattle.jl_cmd.specs.declared.ended.Ended.{Ended}
 use Rattle.jl_cmd.specs.declared.ended.Ended.TheVariants.{Done, Failed, Usage, Refused, ReadFault, WriteFault, NoMemory, NoModule, FolderFault}
+use Rattle.jl_cmd.specs.Caches.{CallsLawfully, IsOfCall, CallsIn, RunsLawfully}
 use Rattle.jl_cmd.specs.Commands.{Command, call, hash, clear, reduce_size, tracker}
+use Rattle.jl_cmd.specs.Computing.{Computes, Writes}
 use Rattle.jl_cmd.specs.Course.{Meanings, Course, course, stretch_of, IsClear, Keeps}
-use Rattle.jl_cmd.specs.Output.{hash_output, call_output}
-use Rattle.jl_cmd.specs.Resting.{Trusted}
-use Rattle.jl_cmd.specs.Caches.{CallsLawfully, IsOfCall, RunsLawfully}
-use Rattle.jl_cmd.specs.Clears.{IsCleared, EndsClearing, Clears}
-use Rattle.jl_cmd.specs.Coming.{EndsWith}
-use Rattle.jl_cmd.specs.Did.{CallDid}
-use Rattle.jl_cmd.specs.Endings.{CommandEnds, Finishes, WritesNothing, RunEnds, status_of}
-use Rattle.jl_cmd.specs.Following.{EndsTracked, Follows}
+use Rattle.jl_cmd.specs.Did.{GivenDid}
+use Rattle.jl_cmd.specs.Endings.{Finishes, WritesNothing, status_of}
+use Rattle.jl_cmd.specs.Met.{Met, of_nothing}
+use Rattle.jl_cmd.specs.Needs.{AreTelling}
+use Rattle.jl_cmd.specs.Output.{hash_output}
+use Rattle.jl_cmd.specs.Puts.{GivenPuts}
 use Rattle.jl_cmd.specs.Ran.{Ran, LeavesAlone}
-use Rattle.jl_cmd.specs.Reports.{IsReported, EndsReducing}
-use Rattle.jl_cmd.specs.Run.{Computes, Writes}
-use Rattle.jl_cmd.specs.Saying.{GivenClock}
-use Rattle.jl_cmd.proofs.CacheLemmas.{no_lines}
-use Rattle.jl_cmd.proofs.CallingLemmas.{leaves_nothing, memory_at_end, usage_at_end}
-use Rattle.jl_cmd.proofs.ClearEnds.{clears_so, runs_clear, clears_nothing}
-use Rattle.jl_cmd.proofs.ComingLemmas.{comes_nothing}
-use Rattle.jl_cmd.proofs.EndingLemmas.{finishes_command, finishes_so, command_given, idle_given}
-use Rattle.jl_cmd.proofs.IdleLemmas.{own_none, silent_none, clear_moves, reduce_moves, tracker_moves}
-use Rattle.jl_cmd.proofs.ReduceEnds.{reduces_so, runs_reduce, reduces_nothing}
-use Rattle.jl_cmd.proofs.TrackerEnds.{follows_ends, follows_nothing}
+use Rattle.jl_cmd.specs.Saying.{Tells}
+use Rattle.jl_cmd.specs.of.Call.{CallEnds, CallEnded}
+use Rattle.jl_cmd.specs.of.Clear.{IsCleared, EndsClearing, Clears}
+use Rattle.jl_cmd.specs.of.Reduce.{IsReported, EndsReducing}
+use Rattle.jl_cmd.specs.of.Track.{EndsTracked, Follows}
+use Rattle.jl_cmd.proofs.CacheLemmas.{trusting}
+use Rattle.jl_cmd.proofs.ClearEnds.{clears_so, runs_clear}
+use Rattle.jl_cmd.proofs.EndingLemmas.{Finished, finished_so, finished_short, finishes_so, all_buffered}
+use Rattle.jl_cmd.proofs.IdleLemmas.{own_none, silent_none}
+use Rattle.jl_cmd.proofs.ReduceEnds.{report_met, reduces_so, runs_reduce}
+use Rattle.jl_cmd.proofs.TrackerEnds.{follows_ends, follows_tells, follows_nothing}
 use Rattle.jl_cmd.proofs.TrackerMoves.{asked, asks_nothing}
 
 -- ---- frames
@@ -71,14 +71,9 @@ host_still v = record { told = λ t. t; token = refl; processors = refl }
 folder_keeps : (Fails : Type 0) (old new : FolderView) → FolderAnswers Fails old new → FolderKeeps old new
 folder_keeps Fails old new f = record { told = f.told; token = f.token; opens = f.opens; later = f.faults.later }
 
--- the clock is as it was
-memory_clock : (given : Option Command) (w : Course) → w.host'.moments ≡ w.host.moments → GivenClock given w (status_of NoMemory)
-memory_clock None w same = λ told. same
-memory_clock (Some (call file location name args)) w same = λ told un. same
-memory_clock (Some (hash args)) w same = λ told. same
-memory_clock (Some (clear location m f key)) w same = λ told. same
-memory_clock (Some (reduce_size location limits)) w same = λ told other. absurd (other refl)
-memory_clock (Some tracker) w same = λ told. same
+-- nothing was written to the error stream
+pub tells_nothing : (given : Option Command) (err : SinkView) → Tells given err err
+tells_nothing given err = record { quiet = λ none. refl; behind = λ clear. ([], sym (append-nil _)) }
 
 -- ---- nothing is run
 
@@ -90,17 +85,18 @@ module _ (means : Meanings) (calls : ℕ) (folder : FolderView) (host : HostView
   -- nothing done keeps every rule
   runs_nothing : (given : Option Command) → RunsLawfully given rest
   unfolding LawfulThroughout
-  runs_nothing None = record { went = goes_none folder; own = silent_none folder }
+  runs_nothing None = record { went = goes_none folder; idle = λ none. silent_none folder; own = silent_none folder }
   runs_nothing (Some (call file location name args)) = record {
     went = goes_none folder;
+    idle = λ none. silent_none folder;
     own = record { stays = λ m is. own_none (IsOfCall (root_of location) m name folder.token) folder; lawful = (lawful_none (root_of location) means.answer AnyMove folder).owes };
   }
-  runs_nothing (Some (hash args)) = record { went = goes_none folder; own = silent_none folder }
+  runs_nothing (Some (hash args)) = record { went = goes_none folder; idle = λ none. silent_none folder; own = silent_none folder }
   runs_nothing (Some (clear location m f key)) =
       runs_clear location m f key rest (lawful_none (root_of location) means.answer AnyMove folder) (own_none (IsTaking (root_of location) (IsCleared location m f key)) folder)
   runs_nothing (Some (reduce_size location limits)) =
       runs_reduce location limits rest (lawful_none (root_of location) means.answer AnyMove folder) (own_none (IsTaking (root_of location) (IsOfEntry (root_of location))) folder)
-  runs_nothing (Some tracker) = record { went = goes_none folder; own = asked means.answer input folder folder (asks_nothing input folder) }
+  runs_nothing (Some tracker) = record { went = goes_none folder; idle = λ none. silent_none folder; own = asked means.answer input folder folder (asks_nothing input folder) }
 
   rest_keeps : (e : Ended) → (e ≡ ReadFault → ⊥) → (e ≡ WriteFault → ⊥) → Keeps (e ≡ ReadFault) (e ≡ WriteFault) rest err err
   rest_keeps e no_read no_write = record {
@@ -126,37 +122,55 @@ module _ (means : Meanings) (calls : ℕ) (folder : FolderView) (host : HostView
       not_cleared : clear_answer.NoMemory ≡ clear_answer.Cleared → ⊥
       not_cleared is = cc
 
+  -- nor was anything done
+  did_nothing : (given : Option Command) → GivenDid given rest of_nothing err err NoMemory []
+  did_nothing None = tt
+  did_nothing (Some (call file location name args)) = record {
+    calls = inl refl;
+    idle = λ told un. silent_none folder;
+    clock = λ told un. refl;
+    lines = λ m is. ([], refl, inl refl);
+    alone = λ told m is lone sound rose. tt;
+    comes = λ m is. tt;
+  }
+  did_nothing (Some (hash args)) = tt
+  did_nothing (Some (clear location m f key)) = record { ends = tt; clears = λ told. clears_none location m f key }
+  did_nothing (Some (reduce_size location limits)) = record { ends = λ told. refl; clock = λ told other. absurd (other refl) }
+  did_nothing (Some tracker) = follows_nothing folder input err
+
+  puts_nothing : (given : Option Command) → GivenPuts given rest of_nothing NoMemory
+  puts_nothing None = tt
+  puts_nothing (Some s) = λ p none. absurd (none (all_buffered (Some s)))
+
   -- wrong usage
   pub ran_usage : Ran None rest err err Usage []
   ran_usage = record {
-    ends = (refl, λ told. refl);
-    calls = refl;
-    lawful = λ told. runs_nothing None;
-    idle = λ told un. silent_none folder;
-    lines = refl;
-    clock = λ told. refl;
-    alone = tt;
-    comes = tt;
-    follows = tt;
-    clears = tt;
-    reduces = tt;
+    met = of_nothing;
+    ends = refl;
+    puts = tt;
+    withholds = λ buffered un told. refl;
+    says = λ none. refl;
+    tells = tells_nothing None err;
+    counts = λ none. refl;
+    clock = λ none told. refl;
+    moves = λ told. runs_nothing None;
+    did = tt;
     frame = rest_keeps Usage (λ is. let n : 2 ≡ 5 = ap status_of is in omega (arith, n)) (λ is. let n : 2 ≡ 6 = ap status_of is in omega (arith, n));
   }
 
   -- want of memory, whatever is given
   pub ran_memory : (given : Option Command) → Ran given rest err err NoMemory []
   ran_memory given = record {
-    ends = λ told. refl;
-    calls = idle_given given rest refl;
-    lawful = λ told. runs_nothing given;
-    idle = λ told un. silent_none folder;
-    lines = no_lines given rest [] refl;
-    clock = memory_clock given rest refl;
-    alone = leaves_nothing given rest NoMemory (λ P. tt);
-    comes = comes_nothing given rest (EndsWith NoMemory [] out out) NoMemory (λ P. tt);
-    follows = follows_nothing given means calls folder host input out err;
-    clears = clears_nothing given rest clears_none;
-    reduces = reduces_nothing given rest (λ told. refl);
+    met = of_nothing;
+    ends = tt;
+    puts = puts_nothing given;
+    withholds = λ buffered un told. refl;
+    says = λ none. refl;
+    tells = tells_nothing given err;
+    counts = λ none. refl;
+    clock = λ none told. refl;
+    moves = λ told. runs_nothing given;
+    did = did_nothing given;
     frame = rest_keeps NoMemory (λ is. let n : 8 ≡ 5 = ap status_of is in omega (arith, n)) (λ is. let n : 8 ≡ 6 = ap status_of is in omega (arith, n));
   }
 
@@ -168,25 +182,23 @@ module _ (means : Meanings) (calls : ℕ) (folder : FolderView) (host : HostView
 
   pub ran_hash : (args : List ℕ) (c : Computed) (e : Ended) → Computes (hash_output args) ⊤ c → Writes c e out out' → SinkAnswers (e ≡ WriteFault) out out' → Ran (Some (hash args)) printed err err e []
   ran_hash args c e computes writes answers =
-      let fin : Finishes (hash_output args) ⊤ ⊤ out out' e = finishes_so (hash_output args) ⊤ ⊤ out out' c e computes (inl writes) in
+      let fin : Finishes (hash_output args) ⊤ out out' e = finishes_so (hash_output args) ⊤ out out' c e computes (inl writes) in
+      let done = finished_so (hash args) printed of_nothing tt ⊤ e refl (λ p. tt) fin in
       record {
-        ends =
-            command_given (hash args) printed e (λ is. subst (λ (e' : Ended). Finishes (hash_output args) ⊤ ⊤ out out' e') is fin)
-            (finishes_command (λ m. hash_output args) None ⊤ ⊤ folder folder out out' e [] (λ told. tt) fin);
-        calls = refl;
-        lawful = λ told. record { went = goes_none folder; own = silent_none folder };
-        idle = λ told un. silent_none folder;
-        lines = refl;
-        clock = λ told. refl;
-        alone = tt;
-        comes = tt;
-        follows = tt;
-        clears = tt;
-        reduces = tt;
+        met = of_nothing;
+        ends = done.ends;
+        puts = done.puts;
+        withholds = done.withholds;
+        says = λ none. refl;
+        tells = tells_nothing (Some (hash args)) err;
+        counts = λ none. refl;
+        clock = λ none told. refl;
+        moves = λ told. record { went = goes_none folder; idle = λ none. silent_none folder; own = silent_none folder };
+        did = tt;
         frame = record {
           folder = folder_still folder;
           host = host_still host;
-          input = input_still input e (λ is. subst (λ (e' : Ended). Finishes (hash_output args) ⊤ ⊤ out out' e') is fin);
+          input = input_still input e (λ is. subst (λ (e' : Ended). Finishes (hash_output args) ⊤ out out' e') is fin);
           out = answers;
           err = err_still err;
         };
@@ -198,31 +210,45 @@ module _ (means : Meanings) (calls calls' : ℕ) (folder folder' : FolderView) (
   abbrev called : Course
   called = course means calls calls' folder folder' host host' input input out out'
 
-  pub ran_call : (file location : PathView) (name args : List ℕ) (e : Ended) (said : List ℕ) → CallDid file location name args (stretch_of called) out out' e said → FolderKeeps folder folder' → SinkAnswers (e ≡ WriteFault) out out' → HostKeeps host host'
+  -- how the run ends by how the call does
+  call_finished : (file location : PathView) (name args : List ℕ) (met : Met) (e : Ended) → (folder.told → CallsIn file location name means.answer folder folder') → CallEnds file location name args (stretch_of called) met out out' e → Finished (Some (call file location name args)) called met e
+  call_finished file location name args met Done lawful ends =
+      finished_so (call file location name args) called met tt _ Done ends.0 (λ p. trusting file location name args called p lawful) ends.1
+  call_finished file location name args met (Failed t) lawful ends =
+      finished_so (call file location name args) called met tt _ (Failed t) ends.0 (λ p. trusting file location name args called p lawful) ends.1
+  call_finished file location name args met (Refused t) lawful ends =
+      finished_so (call file location name args) called met tt _ (Refused t) ends.0 (λ p. trusting file location name args called p lawful) ends.1
+  call_finished file location name args met WriteFault lawful ends =
+      finished_so (call file location name args) called met tt _ WriteFault ends.0 (λ p. trusting file location name args called p lawful) ends.1
+  call_finished file location name args met NoMemory lawful ends = finished_short (call file location name args) called met NoMemory tt tt tt ends
+  call_finished file location name args met NoModule lawful ends = finished_short (call file location name args) called met NoModule tt tt ends.0 ends.1
+  call_finished file location name args met FolderFault lawful ends = finished_short (call file location name args) called met FolderFault tt tt (tt, ends.0) ends.1
+  call_finished file location name args met Usage lawful ends = absurd ends
+  call_finished file location name args met ReadFault lawful ends = absurd ends
+
+  pub ran_call : (file location : PathView) (name args : List ℕ) (e : Ended) (said : List ℕ) → CallEnded file location name args (stretch_of called) out out' e said → FolderKeeps folder folder' → SinkAnswers (e ≡ WriteFault) out out' → HostKeeps host host'
       → Ran (Some (call file location name args)) called err err e said
-  ran_call file location name args e said did keeps answers hosts = record {
-    ends = command_given (call file location name args) called e (λ is. tt) did.ends;
-    calls = did.calls;
-    lawful = λ told. record { went = did.went told; own = did.lawful told };
-    idle = did.idle;
-    lines = did.lines;
-    clock = did.clock;
-    alone = did.alone;
-    comes = did.comes;
-    follows = tt;
-    clears = tt;
-    reduces = tt;
-    frame = record {
-      folder = keeps;
-      host = hosts;
-      input = input_still input e (no_read e did.ends);
-      out = answers;
-      err = err_still err;
-    };
-  }
-    where
-      no_read : (k : Ended) → CommandEnds (λ m. call_output means m name args) (Some file) (Trusted (call file location name args) called) ⊤ folder folder' out out' k → k ≡ ReadFault → ⊥
-      no_read k ends is = subst (λ (j : Ended). CommandEnds (λ m. call_output means m name args) (Some file) (Trusted (call file location name args) called) ⊤ folder folder' out out' j) is ends
+  ran_call file location name args e said ended keeps answers hosts =
+      let done = call_finished file location name args ended.met e ended.lawful ended.ends in
+      record {
+        met = ended.met;
+        ends = done.ends;
+        puts = done.puts;
+        withholds = done.withholds;
+        says = λ none. absurd (none tt);
+        tells = tells_nothing (Some (call file location name args)) err;
+        counts = λ none. absurd (none tt);
+        clock = λ none. absurd (none tt);
+        moves = λ told. record { went = ended.went told; idle = λ none. absurd (none tt); own = ended.lawful told };
+        did = ended.did;
+        frame = record {
+          folder = keeps;
+          host = hosts;
+          input = input_still input e (λ is. subst (λ (k : Ended). CallEnds file location name args (stretch_of called) ended.met out out' k) is ended.ends);
+          out = answers;
+          err = err_still err;
+        };
+      }
 
 -- ---- clear
 
@@ -232,17 +258,16 @@ module _ (means : Meanings) (calls : ℕ) (folder folder' : FolderView) (host : 
 
   pub ran_clear : (location : PathView) (m f : Option (List ℕ)) (key : Option Key) (e : Ended) → EndsClearing e folder folder' → (folder.told → Clears location m f key e folder folder') → FolderAnswers (e ≡ FolderFault) folder folder' → Ran (Some (clear location m f key)) cleared err err e []
   ran_clear location m f key e ends clears answers = record {
-    ends = clears_so location m f key cleared e (λ told. refl) ends;
-    calls = refl;
-    lawful = λ told. let done = clears told in runs_clear location m f key cleared (done.lawful means.answer) done.called.own;
-    idle = λ told un. absurd (clear_moves e folder folder' ends un.0 un.1);
-    lines = refl;
-    clock = λ told. refl;
-    alone = tt;
-    comes = tt;
-    follows = tt;
-    clears = (e, refl, ends, clears);
-    reduces = tt;
+    met = of_nothing;
+    ends = (clears_so location m f key cleared e (λ told. refl) ends).ends;
+    puts = (clears_so location m f key cleared e (λ told. refl) ends).puts;
+    withholds = (clears_so location m f key cleared e (λ told. refl) ends).withholds;
+    says = λ none. refl;
+    tells = tells_nothing (Some (clear location m f key)) err;
+    counts = λ none. refl;
+    clock = λ none told. refl;
+    moves = λ told. let done = clears told in runs_clear location m f key cleared (done.lawful means.answer) done.called.own;
+    did = record { ends = ends; clears = clears };
     frame = record {
       folder = folder_keeps (e ≡ FolderFault) folder folder' answers;
       host = host_still host;
@@ -261,17 +286,16 @@ module _ (means : Meanings) (calls : ℕ) (folder folder' : FolderView) (host ho
   pub ran_reduce : (location : PathView) (limits : Limits) (e : Ended) → EndsReducing e (IsReported location limits host folder folder') folder folder' out out' → (folder.told → OwnMoves folder.token (IsTaking (root_of location) (IsOfEntry (root_of location))) (moved folder folder')) → (folder.told → CallsLawfully location means.answer AnyMove folder folder')
       → FolderAnswers (e ≡ FolderFault) folder folder' → SinkAnswers (e ≡ WriteFault) out out' → HostKeeps host host' → (host.told → host'.moments ≡ moments_after host.moments) → Ran (Some (reduce_size location limits)) reduced err err e []
   ran_reduce location limits e ends own lawful answers outs hosts clock = record {
-    ends = reduces_so location limits reduced (IsReported location limits host folder folder') e ends;
-    calls = refl;
-    lawful = λ told. runs_reduce location limits reduced (lawful told) (own told);
-    idle = λ told un. absurd (reduce_moves e (IsReported location limits host folder folder') folder folder' out out' ends un.0 un.1);
-    lines = refl;
-    clock = λ told other. clock told;
-    alone = tt;
-    comes = tt;
-    follows = tt;
-    clears = tt;
-    reduces = (e, refl, ends);
+    met = report_met e (IsReported location limits host folder folder') folder folder' out out' ends;
+    ends = (reduces_so location limits reduced e ends).ends;
+    puts = (reduces_so location limits reduced e ends).puts;
+    withholds = (reduces_so location limits reduced e ends).withholds;
+    says = λ none. refl;
+    tells = tells_nothing (Some (reduce_size location limits)) err;
+    counts = λ none. refl;
+    clock = λ none. absurd (none tt);
+    moves = λ told. runs_reduce location limits reduced (lawful told) (own told);
+    did = record { ends = ends; clock = λ told other. clock told };
     frame = record {
       folder = folder_keeps (e ≡ FolderFault) folder folder' answers;
       host = hosts;
@@ -289,17 +313,16 @@ module _ (means : Meanings) (calls : ℕ) (folder folder' : FolderView) (host : 
 
   pub ran_tracker : (e : Ended) → Follows input input' folder folder' err err' e → FolderKeeps folder folder' → SourceAnswers (e ≡ ReadFault) input input' → SinkKeeps err err' → Ran (Some tracker) followed err err' e []
   ran_tracker e follows keeps inputs errs = record {
-    ends = follows_ends followed err err' e (λ told. refl) inputs.faults.failed follows;
-    calls = refl;
-    lawful = λ told. let m = follows.moves told in record { went = m.moves.went; own = asked means.answer input folder folder' m };
-    idle = λ told un. absurd (tracker_moves follows.tracked e follows.ends un.0 un.1 un.2);
-    lines = refl;
-    clock = λ told. refl;
-    alone = tt;
-    comes = tt;
-    follows = follows;
-    clears = tt;
-    reduces = tt;
+    met = of_nothing;
+    ends = (follows_ends followed err err' e (λ told. refl) inputs.faults.failed follows).ends;
+    puts = (follows_ends followed err err' e (λ told. refl) inputs.faults.failed follows).puts;
+    withholds = (follows_ends followed err err' e (λ told. refl) inputs.faults.failed follows).withholds;
+    says = λ none. refl;
+    tells = follows_tells followed err err' e follows;
+    counts = λ none. refl;
+    clock = λ none told. refl;
+    moves = λ told. let m = follows.moves told in record { went = m.moves.went; idle = λ none. absurd (none tt); own = asked means.answer input folder folder' m };
+    did = follows;
     frame = record {
       folder = keeps;
       host = host_still host;

@@ -1,5 +1,6 @@
 -- What a run of the command `reduce-size` is.
-use Rattle.std.proofs.Common.{◌≡◌, inl, inr, ℕ, List, Option, None, Some, refl, sym, subst}
+use Rattle.std.proofs.Common.{◌≡◌, inl, inr, ℕ, Some, refl, sym, subst}
+use Rattle.std.specs.Prelude.{⊤}
 use Rattle.jl_text.specs.Paths.{PathView}
 use Rattle.jl_folder.specs.Views.{FolderView, moved}
 use Rattle.jl_streams.specs.Views.{SinkView, HostView}
@@ -16,11 +17,13 @@ use Rattle.jl_cmd.specs.declared.computed.Computed.TheVariants as computed
 use Rattle.jl_cmd.specs.declared.ended.Ended.{Ended}
 use Rattle.jl_cmd.specs.declared.ended.Ended.TheVariants.{Done, Failed, Usage, Refused, ReadFault, WriteFault, NoMemory, NoModule, FolderFault}
 use Rattle.jl_cmd.specs.Caches.{CallsLawfully, RunsLawfully}
-use Rattle.jl_cmd.specs.Commands.{Command, call, hash, clear, reduce_size, tracker}
+use Rattle.jl_cmd.specs.Commands.{reduce_size}
 use Rattle.jl_cmd.specs.Course.{Course}
-use Rattle.jl_cmd.specs.Endings.{WritesNothing, RunEnds, status_of}
-use Rattle.jl_cmd.specs.Reports.{report_of, IsMomentOf, IsReported, EndsReducing, GivenReduces}
-use Rattle.jl_cmd.specs.Run.{WritesWarned}
+use Rattle.jl_cmd.specs.Endings.{WritesNothing}
+use Rattle.jl_cmd.specs.Met.{Met, of_nothing, of_report}
+use Rattle.jl_cmd.specs.of.Reduce.{report_of, IsMomentOf, IsReported, EndsReducing}
+use Rattle.jl_cmd.specs.Computing.{WritesWarned}
+use Rattle.jl_cmd.proofs.EndingLemmas.{Finished, finished_so, finished_short}
 
 -- what was answered is reported
 pub is_reported : (location : PathView) (limits : Limits) (clock : HostView) (old new : FolderView) (moment count bytes : ℕ) (answer : Reduced) → answer ≡ reduced.Report count bytes → IsMomentOf clock moment → (old.told → Reduces (root_of location) limits moment answer old new) → IsReported location limits clock old new count bytes
@@ -44,32 +47,35 @@ module _ (Reported : ℕ → ℕ → Type 0) (folder folder' : FolderView) (out 
   ends_printed FolderFault count bytes r (inl w) = absurd w
   ends_printed e count bytes r (inr lost) = subst (λ (e' : Ended). EndsReducing e' Reported folder folder' out out') (sym lost.0) lost.1
 
+-- what was met
+pub report_met : (e : Ended) (Reported : ℕ → ℕ → Type 0) (folder folder' : FolderView) (out out' : SinkView) → EndsReducing e Reported folder folder' out out' → Met
+report_met Done Reported folder folder' out out' h = of_report h.0 h.1
+report_met WriteFault Reported folder folder' out out' h = of_report h.0 h.1
+report_met FolderFault Reported folder folder' out out' h = of_nothing
+report_met NoMemory Reported folder folder' out out' h = of_nothing
+report_met (Failed t) Reported folder folder' out out' h = of_nothing
+report_met Usage Reported folder folder' out out' h = of_nothing
+report_met (Refused t) Reported folder folder' out out' h = of_nothing
+report_met ReadFault Reported folder folder' out out' h = of_nothing
+report_met NoModule Reported folder folder' out out' h = of_nothing
+
 -- the run ends so
-pub reduces_so : (location : PathView) (limits : Limits) (w : Course) (Reported : ℕ → ℕ → Type 0) (e : Ended) → EndsReducing e Reported w.folder w.folder' w.out w.out' → RunEnds (Some (reduce_size location limits)) w e
-reduces_so location limits w Reported Done h = (report_of h.0 h.1, (λ _. tt), λ _. (refl, refl, h.3))
-reduces_so location limits w Reported WriteFault h = (report_of h.0 h.1, (λ _. tt), (h.3, λ _. (refl, h.4)))
-reduces_so location limits w Reported FolderFault h = (tt, h)
-reduces_so location limits w Reported NoMemory h = h
-reduces_so location limits w Reported (Failed t) h = absurd h
-reduces_so location limits w Reported Usage h = absurd h
-reduces_so location limits w Reported (Refused t) h = absurd h
-reduces_so location limits w Reported ReadFault h = absurd h
-reduces_so location limits w Reported NoModule h = absurd h
+module _ (location : PathView) (limits : Limits) (w : Course) where
+  abbrev Reported : ℕ → ℕ → Type 0
+  Reported = IsReported location limits w.host w.folder w.folder'
+
+  pub reduces_so : (e : Ended) → (h : EndsReducing e Reported w.folder w.folder' w.out w.out') → Finished (Some (reduce_size location limits)) w (report_met e Reported w.folder w.folder' w.out w.out' h) e
+  reduces_so Done h = finished_so (reduce_size location limits) w (of_report h.0 h.1) tt ⊤ Done h.2 (λ p. tt) (λ t. (refl, refl, h.3))
+  reduces_so WriteFault h = finished_so (reduce_size location limits) w (of_report h.0 h.1) tt ⊤ WriteFault h.2 (λ p. tt) (h.3, λ t. (refl, h.4))
+  reduces_so FolderFault h = finished_short (reduce_size location limits) w of_nothing FolderFault tt tt (tt, h.0) h.1
+  reduces_so NoMemory h = finished_short (reduce_size location limits) w of_nothing NoMemory tt tt tt h
+  reduces_so (Failed t) h = absurd h
+  reduces_so Usage h = absurd h
+  reduces_so (Refused t) h = absurd h
+  reduces_so ReadFault h = absurd h
+  reduces_so NoModule h = absurd h
 
 -- its moves are those of the reducing
 pub runs_reduce : (location : PathView) (limits : Limits) (w : Course) → CallsLawfully location w.means.answer AnyMove w.folder w.folder' → OwnMoves w.folder.token (IsTaking (root_of location) (IsOfEntry (root_of location))) (moved w.folder w.folder') → RunsLawfully (Some (reduce_size location limits)) w
 unfolding LawfulThroughout
-runs_reduce location limits w done own = record { went = done.went; own = record { takes = own; lawful = done.owes } }
-
--- want of memory leaves nothing written
-pub reduces_nothing : (given : Option Command) (w : Course) → WritesNothing w.out w.out' → GivenReduces given w (status_of NoMemory)
-reduces_nothing None w nothing = tt
-reduces_nothing (Some (call file location name args)) w nothing = tt
-reduces_nothing (Some (hash args)) w nothing = tt
-reduces_nothing (Some (clear location m n key)) w nothing = tt
-reduces_nothing (Some (reduce_size location limits)) w nothing = (NoMemory, refl, nothing)
-reduces_nothing (Some tracker) w nothing = tt
-
--- the status is that of the ending
-pub reduces_at : (given : Option Command) (w : Course) (m n : ℕ) → n ≡ m → GivenReduces given w m → GivenReduces given w n
-reduces_at given w m n is h = subst (λ (k : ℕ). GivenReduces given w k) (sym is) h
+runs_reduce location limits w done own = record { went = done.went; idle = λ none. absurd (none tt); own = record { takes = own; lawful = done.owes } }

@@ -1,99 +1,143 @@
 -- What a run promises of its status, by how it ended and by the texts that were written then.
-use Rattle.std.proofs.Common.{◌≡◌, ◌∙◌, ◌⊎◌, arith, ℕ, List, ◌++◌, Option, Some, None, refl, sym, ap, subst}
-use Rattle.jl_text.specs.Counts.{Faults}
+use Rattle.std.proofs.Common.{◌≡◌, ◌∙◌, ◌⊎◌, arith, ℕ, List, [], ◌++◌, Bool, true, false, Option, Some, None, inl, inr, refl, sym, ap, subst}
+use Rattle.std.specs.Prelude.{T}
+use Rattle.std.proofs.lemmas.List.{append_assoc}
+use Rattle.jl_text.specs.Counts.{Faults, Rose}
+use Rattle.jl_text.specs.Paths.{PathView}
 use Rattle.jl_streams.specs.Views.{SinkView, SourceAnswers, SinkAnswers, SinkKeeps}
 use Rattle.jl_cmd.specs.declared.ended.Ended.{Ended}
-use Rattle.jl_cmd.specs.declared.ended.Ended.TheVariants.{ReadFault, WriteFault}
-use Rattle.jl_cmd.specs.Commands.{Command, call, hash, clear as clears, reduce_size, tracker}
+use Rattle.jl_cmd.specs.declared.ended.Ended.TheVariants.{Usage, ReadFault, WriteFault, NoModule, FolderFault}
+use Rattle.jl_cmd.specs.Commands.{Command, call, clear as clears, reduce_size, tracker}
 use Rattle.jl_cmd.specs.Course.{Course, stretch_of, IsClear, Keeps}
-use Rattle.jl_cmd.specs.Output.{AreReading}
-use Rattle.jl_cmd.specs.Resting.{OthersAreLawful, Trusted}
-use Rattle.jl_cmd.specs.Caches.{RunsLawfully}
-use Rattle.jl_cmd.specs.Calling.{EndedAt}
-use Rattle.jl_cmd.specs.Coming.{GivenComes, EndsWith, PutsOut}
-use Rattle.jl_cmd.specs.Endings.{RunEnds, status_of, last_text}
-use Rattle.jl_cmd.specs.Promises.{IsStatus, IsUnmoved}
-use Rattle.jl_cmd.specs.Ran.{Ran, Runs}
-use Rattle.jl_cmd.specs.Reporting.{WroteBoth}
-use Rattle.jl_cmd.specs.Saying.{SaidBy, StatusAt, GivenClock}
-use Rattle.jl_cmd.proofs.CacheLemmas.{trusting}
+use Rattle.jl_cmd.specs.Did.{GivenDid}
+use Rattle.jl_cmd.specs.Endings.{RunEnds, LacksTold, status_of, last_text}
+use Rattle.jl_cmd.specs.Met.{Met, bytes_in}
+use Rattle.jl_cmd.specs.Needs.{needs_given, needs_of, AreCalling, AreTelling}
+use Rattle.jl_cmd.specs.Promises.{IsStatus}
+use Rattle.jl_cmd.specs.Puts.{GivenPuts}
+use Rattle.jl_cmd.specs.Ran.{Ran, RanTo, Runs}
+use Rattle.jl_cmd.specs.Saying.{Tells, SaidBy}
+use Rattle.jl_cmd.specs.Uncalled.{IsUncalled}
+use Rattle.jl_cmd.specs.of.Call.{CallDid, CallSays}
 use Rattle.jl_cmd.proofs.CallingLemmas.{leaves_at}
-use Rattle.jl_cmd.proofs.ClearEnds.{clears_at}
 use Rattle.jl_cmd.proofs.ComingLemmas.{comes_at}
-use Rattle.jl_cmd.proofs.EndingLemmas.{is_status, completes, usage_there, usage_only, no_module_seen, read_fault_rose, write_fault_rose, folder_fault_rose, silent_at, nothing_stated, counts_at, text_at, read_fault_is, write_fault_is}
-use Rattle.jl_cmd.proofs.MadeAnswers.{answers_made, answers_stated, front_made, reduces_of}
-use Rattle.jl_cmd.proofs.ReduceEnds.{reduces_at}
+use Rattle.jl_cmd.proofs.EndingLemmas.{SaysLast, all_buffered, answers_at, stated_at, front_at, silent_at, nothing_stated, is_status, completes, usage_there, counts_at, text_at, usage_is, read_fault_is, write_fault_is, no_module_is, folder_fault_is}
 use Rattle.jl_cmd.proofs.ReportLemmas.{last_of_both}
-use Rattle.jl_cmd.proofs.TrackerEnds.{run_says, runs_tracker}
+use Rattle.jl_cmd.proofs.TrackerEnds.{runs_tracker}
 
 -- a count of faults by the status of an ending
 faults_at : (e k : Ended) (n : ℕ) (a b : ℕ) → n ≡ status_of e → (n ≡ status_of k → e ≡ k) → Faults a b (e ≡ k) → Faults a b (n ≡ status_of k)
 faults_at e k n a b at only f = record { later = f.later; failed = λ is. f.failed (only is); steady = λ none. f.steady (λ same. none (at ∙ ap status_of same)) }
 
-module _ (given : Option Command) (w : Course) (err mid err' : SinkView) (e : Ended) (lines : List ℕ) (n : ℕ) (at : n ≡ status_of e) (ran : Ran given w err mid e lines) (quiet : (AreReading given → ⊥) → mid ≡ err) (late : SinkKeeps mid err') (text : IsClear mid err' → err'.written ≡ mid.written ++ (lines ++ last_text e)) (each : mid.told → WroteBoth lines (last_text e) mid err') where
-  early : SinkKeeps err mid
+-- what was said before the last text: the lines of warnings, or what the command wrote by itself
+run_says : (given : Option Command) (w : Course) (met : Met) (err mid err' : SinkView) (e : Ended) (lines : List ℕ) → ((AreCalling given → ⊥) → lines ≡ []) → Tells given err mid
+    → ((file location : PathView) (name args : List ℕ) → given ≡ Some (call file location name args) → CallSays file location (bytes_in met) name args (stretch_of w) lines)
+    → SinkKeeps err mid → SinkKeeps mid err' → (IsClear mid err' → err'.written ≡ mid.written ++ (lines ++ last_text e)) → SaysLast given w met err err' e
+run_says given w met err mid err' e lines silent tells warned early late text clear = go (needs_given given).tells refl
+  where
+    first : Rose err.faults mid.faults → Rose err.faults err'.faults
+    first rose = let l = late.later in omega (arith, rose, l)
+
+    second : Rose mid.faults err'.faults → Rose err.faults err'.faults
+    second rose = let l = early.later in omega (arith, rose, l)
+
+    whole : err'.written ≡ mid.written ++ (lines ++ last_text e)
+    whole = text (early.told clear.0, λ rose. clear.1 (second rose))
+
+    go : (b : Bool) → (needs_given given).tells ≡ b → (said : List ℕ) × SaidBy given w met said × (err'.written ≡ err.written ++ (said ++ last_text e))
+    go false is =
+        let same : mid ≡ err = tells.quiet (λ t. subst T is t) in
+        (lines, record { silent = λ none quiet. silent none; warned = warned }, whole ∙ ap (λ (v : SinkView). v.written ++ (lines ++ last_text e)) same)
+    go true is =
+        let tell : AreTelling given = subst T (sym is) tt in
+        let s = tells.behind (clear.0, λ rose. clear.1 (first rose)) in (
+          s.0 ++ lines,
+          record { silent = λ none quiet. absurd (quiet tell); warned = λ file location name args p. absurd (subst (λ (g : Option Command). AreTelling g) p tell) },
+          whole ∙ ap (λ (t : List ℕ). t ++ (lines ++ last_text e)) s.1 ∙ append_assoc err.written s.0 (lines ++ last_text e) ∙ ap (λ (t : List ℕ). err.written ++ t) (sym (append_assoc s.0 lines (last_text e))),
+        )
+
+module _ (given : Option Command) (w : Course) (err err' : SinkView) (n : ℕ) (r : RanTo given w err err' n) where
+  abbrev e : Ended
+  e = r.ended
+
+  abbrev ran : Ran given w err r.before e r.said
+  ran = r.ran
+
+  at : n ≡ status_of e
+  at = r.status
+
+  early : SinkKeeps err r.before
   early = ran.frame.err
 
+  -- the run of a command that the words gave
+  ran_of : (s : Command) → given ≡ Some s → Ran (Some s) w err r.before e r.said
+  ran_of s is = subst (λ (g : Option Command). Ran g w err r.before e r.said) is ran
+
+  puts_of : (s : Command) → given ≡ Some s → GivenPuts (Some s) w ran.met e
+  puts_of s is = subst (λ (g : Option Command). GivenPuts g w ran.met e) is ran.puts
+
+  ends_of : (s : Command) → given ≡ Some s → RunEnds (Some s) w e
+  ends_of s is = subst (λ (g : Option Command). RunEnds g w e) is ran.ends
+
+  did_of : (s : Command) → given ≡ Some s → GivenDid (Some s) w ran.met err r.before e r.said
+  did_of s is = subst (λ (g : Option Command). GivenDid g w ran.met err r.before e r.said) is ran.did
+
+  -- why it ended so, at an ending that its status gives
+  ends_at : (k : Ended) → e ≡ k → RunEnds given w k
+  ends_at k is = subst (λ (j : Ended). RunEnds given w j) is ran.ends
+
   -- what was said, and then the last text
-  says : IsClear err err' → (said : List ℕ) × SaidBy given w said × (err'.written ≡ err.written ++ (said ++ last_text e))
-  says = run_says given w err mid err' e lines quiet ran.follows ran.lines early late text
+  says : SaysLast given w ran.met err err' e
+  says = run_says given w ran.met err r.before err' e r.said ran.says ran.tells (λ file location name args is. (did_of (call file location name args) is).lines) early r.keeps r.text
 
-  -- the same of the command that the words gave
-  module _ (s : Command) (is : given ≡ Some s) where
-    ends_of : RunEnds (Some s) w e
-    ends_of = subst (λ (g : Option Command). RunEnds g w e) is ran.ends
+  says_of : (s : Command) → given ≡ Some s → SaysLast (Some s) w ran.met err err' e
+  says_of s is = subst (λ (g : Option Command). SaysLast g w ran.met err err' e) is says
 
-    says_of : IsClear err err' → (said : List ℕ) × SaidBy (Some s) w said × (err'.written ≡ err.written ++ (said ++ last_text e))
-    says_of = λ clear. subst (λ (g : Option Command). (said : List ℕ) × SaidBy g w said × (err'.written ≡ err.written ++ (said ++ last_text e))) is (says clear)
-
-    trusted_of : OthersAreLawful s w → Trusted s w
-    trusted_of theirs = trusting s w theirs (λ told. subst (λ (g : Option Command). RunsLawfully g w) is (ran.lawful told))
-
-  comes_of : (g : Option Command) → ((AreReading g → ⊥) → mid ≡ err) → GivenComes g w (EndsWith e lines w.out w.out') (EndedAt e) → GivenComes g w (PutsOut w.out w.out' err err') (StatusAt n)
-  comes_of None quiet comes = tt
-  comes_of (Some (call file location name args)) quiet comes =
-      comes_at w.out w.out' err err' lines e n at (λ clear. plain (quiet (λ none. none)) clear) file location name args (stretch_of w) comes
-    where
-      plain : mid ≡ err → IsClear err err' → err'.written ≡ err.written ++ (lines ++ last_text e)
-      plain same clear = text (subst (λ (v : SinkView). IsClear v err') (sym same) clear) ∙ ap (λ (v : SinkView). v.written ++ (lines ++ last_text e)) same
-  comes_of (Some (hash args)) quiet comes = tt
-  comes_of (Some (clears location m f key)) quiet comes = tt
-  comes_of (Some (reduce_size location limits)) quiet comes = tt
-  comes_of (Some tracker) quiet comes = tt
+  -- nothing of a call was written to the error stream before its lines
+  plain : (file location : PathView) (name args : List ℕ) → given ≡ Some (call file location name args) → IsClear err err' → err'.written ≡ err.written ++ (r.said ++ last_text e)
+  plain file location name args is clear =
+      let same : r.before ≡ err = ran.tells.quiet (λ t. subst (λ (g : Option Command). AreTelling g) is t) in
+      r.text (subst (λ (v : SinkView). IsClear v err') (sym same) clear) ∙ ap (λ (v : SinkView). v.written ++ (r.said ++ last_text e)) same
 
   pub runs_of : Runs given w err err' n
   runs_of = record {
-    output = λ s is whole theirs.
-        answers_made s w err err' e n at (ends_of s is) (reduces_of given s w n is (reduces_at given w (status_of e) n at ran.reduces)) (trusted_of s is theirs) theirs.input theirs.told (says_of s is) whole;
-    write_fault = λ s is six theirs. front_made s w err err' e n six at (ends_of s is) (reduces_of given s w n is (reduces_at given w (status_of e) n at ran.reduces)) (trusted_of s is theirs) theirs.told;
-    write_fault_rose = λ six. write_fault_rose given w e ran.ends (sym at ∙ six);
-    nothing = silent_at given w e n at ran.ends;
-    refused = λ s is which seen heard. answers_stated s w err err' e n at (ends_of s is) (reduces_of given s w n is (reduces_at given w (status_of e) n at ran.reduces)) heard seen (says_of s is) which;
-    refused_nothing = λ which. nothing_stated given w e n at ran.ends which;
-    complete = λ s is seen heard valid clear. completes s w e n at (ends_of s is) heard seen valid clear;
+    met = ran.met;
+    output = λ s is whole p. answers_at s w ran.met err err' e n at (puts_of s is) p (says_of s is) whole;
+    write_fault = λ s is six p. front_at s w ran.met err err' e n at (puts_of s is) p six;
+    write_fault_rose = λ six. (ends_at WriteFault (write_fault_is e (sym at ∙ six))).1;
+    nothing = λ silent. ran.withholds (all_buffered given) (silent_at e n at silent);
+    refused = λ s is which stated. stated_at s w ran.met err err' e n at (puts_of s is) stated (says_of s is) which;
+    refused_nothing = λ which. ran.withholds (all_buffered given) (nothing_stated e n at which);
+    complete = λ s is stated valid clear. completes s w ran.met e n at (ends_of s is) (puts_of s is) stated valid clear;
     statuses = subst IsStatus (sym at) (is_status e);
     usage = λ none. subst (λ (k : ℕ). (k ≡ 2) ⊎ (k ≡ 8)) (sym at) (usage_there given w e ran.ends none);
-    usage_only = λ two. usage_only given w e ran.ends (sym at ∙ two);
-    no_module = λ s is nine. no_module_seen given w e s is ran.ends (sym at ∙ nine);
-    read_fault = λ five. read_fault_rose given w e ran.ends (sym at ∙ five);
-    folder_fault = λ ten. folder_fault_rose given w e ran.ends (sym at ∙ ten);
-    said = (e, at, ran.ends, says);
+    usage_only = λ two. ends_at Usage (usage_is e (sym at ∙ two));
+    no_module = λ s is nine. subst (λ (g : Option Command). LacksTold (needs_given g).file w.folder w.folder') is (ends_at NoModule (no_module_is e (sym at ∙ nine)));
+    read_fault = λ five. ends_at ReadFault (read_fault_is e (sym at ∙ five));
+    folder_fault = λ ten. ends_at FolderFault (folder_fault_is e (sym at ∙ ten));
+    said = (e, at, ran.ends, ran.puts, says);
     text = λ short clear. let x = says clear in (x.0, x.1, x.2 ∙ ap (λ (t : List ℕ). err.written ++ (x.0 ++ t)) (text_at e n at short));
-    tried = λ short told. last_of_both lines (last_text e) _ err mid err' (text_at e n at short) early.later (each (early.told told));
-    calls = counts_at given w e n at ran.calls;
-    clock = subst (λ (k : ℕ). GivenClock given w k) (sym at) ran.clock;
-    lawful = ran.lawful;
-    alone = leaves_at given w e n at ran.alone;
-    comes = comes_of given quiet ran.comes;
-    idle = λ told un. ran.idle told (subst (λ (k : ℕ). IsUnmoved given k) at un);
-    tracks = runs_tracker given w err mid err' e lines n at early late text ran.lines ran.follows;
-    clears = clears_at given w (status_of e) n at ran.clears;
-    reduces = reduces_at given w (status_of e) n at ran.reduces;
+    tried = λ short told. last_of_both r.said (last_text e) _ err r.before err' (text_at e n at short) early.later (r.each (early.told told));
+    uncalled = ran.counts;
+    calls = λ file location name args is. counts_at w e n at (did_of (call file location name args) is).calls;
+    clock = record {
+      unused = ran.clock;
+      uncalled = λ file location name args is told un. (did_of (call file location name args) is).clock told (subst (λ (k : ℕ). IsUncalled k) at un);
+      reduced = λ location limits is told other. (did_of (reduce_size location limits) is).clock told (λ eight. other (at ∙ eight));
+    };
+    lawful = ran.moves;
+    alone = λ file location name args is. leaves_at file location (bytes_in ran.met) name args (stretch_of w) e n at (did_of (call file location name args) is).alone;
+    comes = λ file location name args is.
+        comes_at w.out w.out' err err' r.said e n at (plain file location name args is) file location (bytes_in ran.met) name args (stretch_of w) (did_of (call file location name args) is).comes;
+    idle = λ file location name args is told un. (did_of (call file location name args) is).idle told (subst (λ (k : ℕ). IsUncalled k) at un);
+    tracks = λ is. runs_tracker w err r.before err' e r.said n at early r.keeps r.text (ran.says (λ c. subst (λ (g : Option Command). AreCalling g) is c)) (did_of tracker is);
+    clears = λ location m f key is. (e, at, did_of (clears location m f key) is);
+    reduces = λ location limits is. (e, at, did_of (reduce_size location limits) is);
     frame = record {
       folder = ran.frame.folder;
       host = ran.frame.host;
       input = record { told = ran.frame.input.told; faults = faults_at e ReadFault n w.input.faults w.input'.faults at (λ five. read_fault_is e (sym at ∙ five)) ran.frame.input.faults };
       out = record { told = ran.frame.out.told; faults = faults_at e WriteFault n w.out.faults w.out'.faults at (λ six. write_fault_is e (sym at ∙ six)) ran.frame.out.faults };
-      err = record { told = λ told. late.told (early.told told); later = let a = early.later in let b = late.later in omega (arith, a, b) };
+      err = record { told = λ told. r.keeps.told (early.told told); later = let a = early.later in let b = r.keeps.later in omega (arith, a, b) };
     };
   }

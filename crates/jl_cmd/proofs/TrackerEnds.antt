@@ -6,7 +6,7 @@ use Rattle.std.proofs.Math.Seq.{take-append_seam}
 use Rattle.jl_text.specs.Counts.{Rose}
 use Rattle.jl_text.specs.declared.limits.TheConstants.{MOST_INPUT_BYTES}
 use Rattle.jl_folder.specs.Views.{FolderView}
-use Rattle.jl_streams.specs.Views.{SourceView, SinkView, HostView, SinkKeeps}
+use Rattle.jl_streams.specs.Views.{SourceView, SinkView, SinkKeeps}
 use Rattle.jl_lines.specs.Lines.{is_newline, has_newline, lines_of, put_before}
 use Rattle.jl_tracker.specs.declared.following.Tracked.{Tracked}
 use Rattle.jl_tracker.specs.declared.following.Tracked.TheVariants as tracked
@@ -16,15 +16,17 @@ use Rattle.jl_tracker.specs.Stages.{Stage, SinkPoint, sink_point, Point, point, 
 use Rattle.jl_tracker.specs.Plays.{Wrote, PlaysAt, CutFirst, StopsAt}
 use Rattle.jl_tracker.specs.Tracking.{EndsLines, Seen, Tracks, TracksMuch}
 use Rattle.jl_cmd.specs.declared.ended.Ended.{Ended}
-use Rattle.jl_cmd.specs.declared.ended.Ended.TheVariants.{ReadFault, NoMemory}
-use Rattle.jl_cmd.specs.Commands.{Command, call, hash, clear as clears, reduce_size, tracker}
-use Rattle.jl_cmd.specs.Course.{Meanings, Course, course, IsClear}
-use Rattle.jl_cmd.specs.Output.{newlines, refuses_input, tracker_output, AreReading}
-use Rattle.jl_cmd.specs.Endings.{RunEnds, WritesNothing, status_of, last_text}
-use Rattle.jl_cmd.specs.Following.{EndsTracked, Follows, GivenFollows, GivenTracks}
+use Rattle.jl_cmd.specs.declared.ended.Ended.TheVariants.{Done, ReadFault, NoMemory}
+use Rattle.jl_cmd.specs.Commands.{tracker}
+use Rattle.jl_cmd.specs.Course.{Course, IsClear}
+use Rattle.jl_cmd.specs.Output.{newlines, refuses_input, tracker_output}
+use Rattle.jl_cmd.specs.Endings.{WritesNothing, status_of, last_text}
+use Rattle.jl_cmd.specs.Met.{of_nothing}
+use Rattle.jl_cmd.specs.of.Track.{EndsTracked, Follows, RunsTracker}
 use Rattle.jl_cmd.specs.Reporting.{sink_at}
-use Rattle.jl_cmd.specs.Saying.{GivenLines, SaidBy}
+use Rattle.jl_cmd.specs.Saying.{Tells}
 use Rattle.jl_cmd.specs.Statuses as status
+use Rattle.jl_cmd.proofs.EndingLemmas.{Finished, finished_so, finished_short}
 use Rattle.jl_cmd.proofs.TrackerMoves.{tracks_nothing, asks_nothing}
 
 -- ---- the number of the line that is read
@@ -108,16 +110,29 @@ too_much source rest a b line t told =
 -- ---- the ending
 
 module _ (w : Course) (a b : Stage) where
-  ended : (end : Tracked) (e : Ended) → WritesNothing w.out w.out' → (e ≡ ReadFault → Rose w.input.faults w.input'.faults) → Tracks w.input w.input' a b end → EndsTracked end e → RunEnds (Some tracker) w e
+  ended : (end : Tracked) (e : Ended) → WritesNothing w.out w.out' → (e ≡ ReadFault → Rose w.input.faults w.input'.faults) → Tracks w.input w.input' a b end → EndsTracked end e → Finished (Some tracker) w of_nothing e
   ended tracked.Ended e nothing rose t is =
-      subst (λ (e' : Ended). RunEnds (Some tracker) w e') (sym is)
-      ([], (λ _. tt), λ told. let o_is = few_output w.input.left (t.few told) in (ap (λ o. o.status) o_is, ap (λ o. o.text) o_is, λ out. nothing out ∙ sym (append-nil w.out.written) ∙ ap (λ o. w.out.written ++ o.bytes) (sym o_is)))
-  ended tracked.ReadFault e nothing rose t is = subst (λ (e' : Ended). RunEnds (Some tracker) w e') (sym is) (tt, rose is, nothing)
-  ended (tracked.TooMuch line) e nothing rose t (inl is) = subst (λ (e' : Ended). RunEnds (Some tracker) w e') (sym is) ([], (λ _. tt), ((λ told. too_much w.input w.input' a b line t told), nothing))
-  ended (tracked.TooMuch line) e nothing rose t (inr is) = subst (λ (e' : Ended). RunEnds (Some tracker) w e') (sym is) nothing
-  ended tracked.NoMemory e nothing rose t is = subst (λ (e' : Ended). RunEnds (Some tracker) w e') (sym is) nothing
+      subst (λ (e' : Ended). Finished (Some tracker) w of_nothing e') (sym is)
+      (finished_so tracker w of_nothing tt w.input.told Done refl (λ p. p.input)
+      (λ told. let o_is = few_output w.input.left (t.few told) in (ap (λ o. o.status) o_is, ap (λ o. o.text) o_is, λ out. nothing out ∙ sym (append-nil w.out.written) ∙ ap (λ o. w.out.written ++ o.bytes) (sym o_is))))
+  ended tracked.ReadFault e nothing rose t is = subst (λ (e' : Ended). Finished (Some tracker) w of_nothing e') (sym is) (finished_short tracker w of_nothing ReadFault tt tt (tt, rose is) nothing)
+  ended (tracked.TooMuch line) e nothing rose t (inl is) =
+      subst (λ (e' : Ended). Finished (Some tracker) w of_nothing e') (sym is) (record {
+        ends = tt;
+        puts = λ p.
+            let o_is = too_much w.input w.input' a b line t p.input in
+            record {
+              is_met = refl;
+              status = ap (λ o. o.status) o_is;
+              text = ap (λ o. o.text) o_is;
+              written = λ told. nothing told ∙ sym (append-nil w.out.written) ∙ ap (λ o. w.out.written ++ o.bytes) (sym o_is);
+            };
+        withholds = λ buffered un. nothing;
+      })
+  ended (tracked.TooMuch line) e nothing rose t (inr is) = subst (λ (e' : Ended). Finished (Some tracker) w of_nothing e') (sym is) (finished_short tracker w of_nothing NoMemory tt tt tt nothing)
+  ended tracked.NoMemory e nothing rose t is = subst (λ (e' : Ended). Finished (Some tracker) w of_nothing e') (sym is) (finished_short tracker w of_nothing NoMemory tt tt tt nothing)
 
-pub follows_ends : (w : Course) (err err' : SinkView) (e : Ended) → WritesNothing w.out w.out' → (e ≡ ReadFault → Rose w.input.faults w.input'.faults) → Follows w.input w.input' w.folder w.folder' err err' e → RunEnds (Some tracker) w e
+pub follows_ends : (w : Course) (err err' : SinkView) (e : Ended) → WritesNothing w.out w.out' → (e ≡ ReadFault → Rose w.input.faults w.input'.faults) → Follows w.input w.input' w.folder w.folder' err err' e → Finished (Some tracker) w of_nothing e
 follows_ends w err err' e nothing rose f = ended w (stage w.folder err) (stage w.folder' err') f.tracked e nothing rose f.tracks f.ends
 
 -- ---- the texts
@@ -163,42 +178,17 @@ tracks_says source rest a b tracked.ReadFault told t = plays_says a _ (point a) 
 tracks_says source rest a b (tracked.TooMuch line) told t = plays_says a _ (point a) (point b) told t.plays
 tracks_says source rest a b tracked.NoMemory told t = elim t.stops [ inl h ↦ stops_says a _ (point a) (point b) told h | inr h ↦ stops_says a _ (point a) (point b) told h.1 ]
 
--- what a run said before its last text
-pub run_says : (given : Option Command) (w : Course) (err mid err' : SinkView) (e : Ended) (lines : List ℕ) → ((AreReading given → ⊥) → mid ≡ err) → GivenFollows given w err mid e → GivenLines given w lines → SinkKeeps err mid → SinkKeeps mid err'
-    → (IsClear mid err' → err'.written ≡ mid.written ++ (lines ++ last_text e)) → IsClear err err' → (said : List ℕ) × SaidBy given w said × (err'.written ≡ err.written ++ (said ++ last_text e))
-run_says given w err mid err' e lines quiet follows warned early late text clear = go given quiet follows warned
-  where
-    first : Rose err.faults mid.faults → Rose err.faults err'.faults
-    first rose = let l = late.later in omega (arith, rose, l)
-
-    second : Rose mid.faults err'.faults → Rose err.faults err'.faults
-    second rose = let l = early.later in omega (arith, rose, l)
-
-    whole : err'.written ≡ mid.written ++ (lines ++ last_text e)
-    whole = text (early.told clear.0, λ rose. clear.1 (second rose))
-
-    silent : mid ≡ err → err'.written ≡ err.written ++ (lines ++ last_text e)
-    silent same = whole ∙ ap (λ (v : SinkView). v.written ++ (lines ++ last_text e)) same
-
-    go : (given : Option Command) → ((AreReading given → ⊥) → mid ≡ err) → GivenFollows given w err mid e → GivenLines given w lines → (said : List ℕ) × SaidBy given w said × (err'.written ≡ err.written ++ (said ++ last_text e))
-    go None quiet follows warned = (lines, warned, silent (quiet (λ none. none)))
-    go (Some (call file location name args)) quiet follows warned = (lines, warned, silent (quiet (λ none. none)))
-    go (Some (hash args)) quiet follows warned = (lines, warned, silent (quiet (λ none. none)))
-    go (Some (clears location m f key)) quiet follows warned = (lines, warned, silent (quiet (λ none. none)))
-    go (Some (reduce_size location limits)) quiet follows warned = (lines, warned, silent (quiet (λ none. none)))
-    go (Some tracker) quiet follows warned =
-        let s = (tracks_says w.input w.input' (stage w.folder err) (stage w.folder' mid) follows.tracked clear.0 follows.tracks).1 (λ rose. clear.1 (first rose)) in
-        (s.0 ++ lines, tt, whole ∙ ap (λ (t : List ℕ). t ++ (lines ++ last_text e)) s.1 ∙ append_assoc err.written s.0 (lines ++ last_text e) ∙ ap (λ (t : List ℕ). err.written ++ t) (sym (append_assoc s.0 lines (last_text e))))
+-- the texts of the tracker stand behind the others
+pub follows_tells : (w : Course) (err err' : SinkView) (e : Ended) → Follows w.input w.input' w.folder w.folder' err err' e → Tells (Some tracker) err err'
+follows_tells w err err' e f = record {
+  quiet = λ none. absurd (none tt);
+  behind = λ clear. (tracks_says w.input w.input' (stage w.folder err) (stage w.folder' err') f.tracked clear.0 f.tracks).1 clear.1;
+}
 
 -- ---- at want of memory for the words
 
-pub follows_nothing : (given : Option Command) (means : Meanings) (calls : ℕ) (folder : FolderView) (host : HostView) (input : SourceView) (out err : SinkView) → GivenFollows given (course means calls calls folder folder host host input input out out) err err NoMemory
-follows_nothing None means calls folder host input out err = tt
-follows_nothing (Some (call file location name args)) means calls folder host input out err = tt
-follows_nothing (Some (hash args)) means calls folder host input out err = tt
-follows_nothing (Some (clears location m f key)) means calls folder host input out err = tt
-follows_nothing (Some (reduce_size location limits)) means calls folder host input out err = tt
-follows_nothing (Some tracker) means calls folder host input out err = record { tracked = tracked.NoMemory; tracks = tracks_nothing input (stage folder err); moves = λ told. asks_nothing input folder; ends = refl }
+pub follows_nothing : (folder : FolderView) (input : SourceView) (err : SinkView) → Follows input input folder folder err err NoMemory
+follows_nothing folder input err = record { tracked = tracked.NoMemory; tracks = tracks_nothing input (stage folder err); moves = λ told. asks_nothing input folder; ends = refl }
 
 -- ---- the run, once the last text is written
 
@@ -219,13 +209,8 @@ tracks_as source rest a folder err mid (tracked.TooMuch line) t = record {
 }
 tracks_as source rest a folder err mid tracked.NoMemory t = record { lines = t.lines; readings = t.readings; open_line = t.open_line; read = t.read; seen = t.seen; stops = t.stops }
 
-pub runs_tracker : (given : Option Command) (w : Course) (err mid err' : SinkView) (e : Ended) (lines : List ℕ) (n : ℕ) → n ≡ status_of e → SinkKeeps err mid → SinkKeeps mid err' → (IsClear mid err' → err'.written ≡ mid.written ++ (lines ++ last_text e)) → GivenLines given w lines → GivenFollows given w err mid e → GivenTracks given w err err' n
-runs_tracker None w err mid err' e lines n is early late text warned follows = tt
-runs_tracker (Some (call file location name args)) w err mid err' e lines n is early late text warned follows = tt
-runs_tracker (Some (hash args)) w err mid err' e lines n is early late text warned follows = tt
-runs_tracker (Some (clears location m f key)) w err mid err' e lines n is early late text warned follows = tt
-runs_tracker (Some (reduce_size location limits)) w err mid err' e lines n is early late text warned follows = tt
-runs_tracker (Some tracker) w err mid err' e lines n is early late text warned follows = record {
+pub runs_tracker : (w : Course) (err mid err' : SinkView) (e : Ended) (lines : List ℕ) (n : ℕ) → n ≡ status_of e → SinkKeeps err mid → SinkKeeps mid err' → (IsClear mid err' → err'.written ≡ mid.written ++ (lines ++ last_text e)) → lines ≡ [] → Follows w.input w.input' w.folder w.folder' err mid e → RunsTracker w err err' n
+runs_tracker w err mid err' e lines n is early late text warned follows = record {
   ended = e;
   point = sink_point mid;
   follows = record { tracked = follows.tracked; tracks = tracks_as w.input w.input' (stage w.folder err) w.folder' err mid follows.tracked follows.tracks; moves = follows.moves; ends = follows.ends };

@@ -20,7 +20,7 @@ use Rattle.jl_tracker.specs.Effects.{Effect, reports_bad, reports_unknown, repor
 use Rattle.jl_tracker.specs.Stages.{Stage, point}
 use Rattle.jl_tracker.specs.Taking.{all_effects, TakesResource, TakesForSome, MovesAsked}
 use Rattle.jl_tracker.specs.Tracking.{Tracks}
-use Rattle.jl_cmd.specs.Following.{LiesOutside, AreOutside, TakesAsked}
+use Rattle.jl_cmd.specs.of.Track.{LiesOutside, AreOutside, TakesAsked}
 
 -- ---- outside of a root
 

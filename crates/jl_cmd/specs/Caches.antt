@@ -14,9 +14,10 @@ use Rattle.jl_store.specs.declared.cached.Cached.{Cached}
 use Rattle.jl_words.specs.ModuleNames.{module_name_of}
 use Rattle.jl_cmd.specs.Course.{Course}
 use Rattle.jl_cmd.specs.Commands.{Command, call, hash, clear, reduce_size, tracker}
-use Rattle.jl_cmd.specs.Clears.{ClearsLawfully}
-use Rattle.jl_cmd.specs.Reports.{ReducesLawfully}
-use Rattle.jl_cmd.specs.Following.{TakesAsked}
+use Rattle.jl_cmd.specs.Needs.{UseFolder}
+use Rattle.jl_cmd.specs.of.Clear.{ClearsLawfully}
+use Rattle.jl_cmd.specs.of.Reduce.{ReducesLawfully}
+use Rattle.jl_cmd.specs.of.Track.{TakesAsked}
 
 -- Own moves are of these kinds. Begun where the cache was sound, each is lawful wherever all steps before it are, and where all steps are the call ends
 -- where the cache is sound.
@@ -50,7 +51,8 @@ OwnIsLawful (Some (clear location m f key)) w = ClearsLawfully location m f key 
 OwnIsLawful (Some (reduce_size location limits)) w = ReducesLawfully location w.means.answer w.folder w.folder'
 OwnIsLawful (Some tracker) w = TakesAsked w.means.answer w.input w.folder w.folder'
 
--- the run went on from what it found, by moves that were allowed; and its own are as they should be
+-- the run went on from what it found, by moves that were allowed; a command without a use for the folder makes none; and its own are as they should be
 pub record RunsLawfully (given : Option Command) (w : Course) : Type 0 where
   pub went : GoesOn w.folder w.folder'
+  pub idle : (UseFolder given → ⊥) → IsIdle w
   pub own : OwnIsLawful given w

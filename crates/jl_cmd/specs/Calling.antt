@@ -48,9 +48,9 @@ CallWarns means memory bytes name args old new ws ws' =
 
 -- warnings of a call: none, or such as are on this function and these arguments, and have their cause by the code that the module's bytes,
 -- as this run read them, give the function
-abbrev pub AreOfCall : Meanings → (file : PathView) → Memory → (name args : List ℕ) → (old new : FolderView) → List Warning → Type 0
-AreOfCall means file memory name args old new ws =
-    (ws ≡ []) ⊎ ((bytes : List ℕ) × (old.told → ReadFrom file bytes old new) × (q : Asks means bytes name args) × AreCaused ws (asked_by means memory bytes name args q) old new)
+abbrev pub AreOfCall : Meanings → (file : PathView) → Memory → (bytes name args : List ℕ) → (old new : FolderView) → List Warning → Type 0
+AreOfCall means file memory bytes name args old new ws =
+    (ws ≡ []) ⊎ ((old.told → ReadFrom file bytes old new) × (q : Asks means bytes name args) × AreCaused ws (asked_by means memory bytes name args q) old new)
 
 -- ---- what a lone call leaves
 
@@ -78,8 +78,8 @@ abbrev pub LeavesCalled : Memory → (bytes name args : List ℕ) → Stretch �
 LeavesCalled memory bytes name args v n = (q : Asks v.means bytes name args) × LeavesAsked (asked_by v.means memory bytes name args q) v n
 
 -- the same of the module's bytes as this run read them
-abbrev pub LeavesRead : (file : PathView) → Memory → (name args : List ℕ) → Stretch → (n : ℕ) → Type 0
-LeavesRead file memory name args v n = (bytes : List ℕ) × ReadFrom file bytes v.folder v.folder' × LeavesCalled memory bytes name args v n
+abbrev pub LeavesRead : (file : PathView) → Memory → (bytes name args : List ℕ) → Stretch → (n : ℕ) → Type 0
+LeavesRead file memory bytes name args v n = ReadFrom file bytes v.folder v.folder' × LeavesCalled memory bytes name args v n
 
 -- a claim on the status of a value or of an error of the function
 abbrev pub ComputedAt : Computed → (ℕ → Type 0) → Type 0

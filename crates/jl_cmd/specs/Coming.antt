@@ -19,9 +19,8 @@ use Rattle.jl_words.specs.ModuleNames.{module_name_of}
 use Rattle.jl_cmd.specs.declared.computed.Computed.{Computed}
 use Rattle.jl_cmd.specs.declared.computed.Computed.TheVariants as computed
 use Rattle.jl_cmd.specs.declared.ended.Ended.{Ended}
-use Rattle.jl_cmd.specs.Commands.{Command, call, hash, clear, reduce_size, tracker}
 use Rattle.jl_cmd.specs.Output.{Output, prints, fails}
-use Rattle.jl_cmd.specs.Course.{Stretch, Course, stretch_of, IsClear}
+use Rattle.jl_cmd.specs.Course.{Stretch, IsClear}
 use Rattle.jl_cmd.specs.Endings.{ReadFrom, last_text}
 use Rattle.jl_cmd.specs.Calling.{Asks, asked_by, memory_at}
 use Rattle.jl_cmd.specs.Statuses as status
@@ -65,9 +64,8 @@ abbrev pub ComesCalled : Memory → (bytes name args : List ℕ) → Stretch →
 ComesCalled memory bytes name args v Puts n = (q : Asks v.means bytes name args) × ComesAsked (asked_by v.means memory bytes name args q) v Puts n
 
 -- the same of the module's bytes as this run read them
-abbrev pub ComesRead : (file : PathView) → Memory → (name args : List ℕ) → Stretch → (Puts : Output → List Warning → Type 0) → (n : ℕ) → Type 0
-ComesRead file memory name args v Puts n =
-    (bytes : List ℕ) × (v.folder.told → ReadFrom file bytes v.folder v.folder') × ComesCalled memory bytes name args v Puts n
+abbrev pub ComesRead : (file : PathView) → Memory → (bytes name args : List ℕ) → Stretch → (Puts : Output → List Warning → Type 0) → (n : ℕ) → Type 0
+ComesRead file memory bytes name args v Puts n = (v.folder.told → ReadFrom file bytes v.folder v.folder') × ComesCalled memory bytes name args v Puts n
 
 -- ---- what is put out
 
@@ -96,15 +94,6 @@ pub record PutsOut (out out' err err' : SinkView) (m : List ℕ) (o : Output) (a
 -- ---- a command
 
 -- a call of a module's function that told a value or an error came to it so
-abbrev pub CallComes : (file location : PathView) → (name args : List ℕ) → Stretch → (Puts : List ℕ → Output → List Warning → Type 0) → ((ℕ → Type 0) → Type 0) → Type 0
-CallComes file location name args v Puts At =
-    (m : List ℕ) → module_name_of file ≡ Some m → At (ComesRead file (memory_at location m v.folder.token) name args v (Puts m))
-
--- the same where words give a call
-abbrev pub GivenComes : Option Command → Course → (Puts : List ℕ → Output → List Warning → Type 0) → ((ℕ → Type 0) → Type 0) → Type 0
-GivenComes None w Puts At = ⊤
-GivenComes (Some (call file location name args)) w Puts At = CallComes file location name args (stretch_of w) Puts At
-GivenComes (Some (hash args)) w Puts At = ⊤
-GivenComes (Some (clear location m f key)) w Puts At = ⊤
-GivenComes (Some (reduce_size location limits)) w Puts At = ⊤
-GivenComes (Some tracker) w Puts At = ⊤
+abbrev pub CallComes : (file location : PathView) → (bytes name args : List ℕ) → Stretch → (Puts : List ℕ → Output → List Warning → Type 0) → ((ℕ → Type 0) → Type 0) → Type 0
+CallComes file location bytes name args v Puts At =
+    (m : List ℕ) → module_name_of file ≡ Some m → At (ComesRead file (memory_at location m v.folder.token) bytes name args v (Puts m))

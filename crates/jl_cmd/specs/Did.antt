@@ -1,29 +1,24 @@
--- What a call of a function did, before its texts are written.
-use Rattle.std.specs.Prelude.{◌≡◌, ℕ, List, Some, ⊤}
-use Rattle.jl_text.specs.Paths.{PathView}
+-- What the command of a run did, each by a record of its own.
+use Rattle.std.specs.Prelude.{ℕ, List, Option, Some, None, ⊤}
 use Rattle.jl_streams.specs.Views.{SinkView}
-use Rattle.jl_rely.specs.Claims.{GoesOn}
-use Rattle.jl_entry.specs.Names.{root_of}
-use Rattle.jl_store.specs.Trust.{IsTrusted}
 use Rattle.jl_cmd.specs.declared.ended.Ended.{Ended}
-use Rattle.jl_cmd.specs.Course.{Stretch}
-use Rattle.jl_cmd.specs.Output.{call_output}
-use Rattle.jl_cmd.specs.Endings.{CommandEnds, status_of}
-use Rattle.jl_cmd.specs.Run.{Calls}
-use Rattle.jl_cmd.specs.Caches.{CallsIn, MakesNone}
-use Rattle.jl_cmd.specs.Calling.{EndedAt}
-use Rattle.jl_cmd.specs.Saying.{CallSays, CallLeaves}
-use Rattle.jl_cmd.specs.Coming.{CallComes, EndsWith}
-use Rattle.jl_cmd.specs.Uncalled.{IsUncalled}
+use Rattle.jl_cmd.specs.Commands.{Command, call, hash, clear, reduce_size, tracker}
+use Rattle.jl_cmd.specs.Course.{Course, stretch_of}
+use Rattle.jl_cmd.specs.Met.{Met}
+use Rattle.jl_cmd.specs.of.Call.{CallDid}
+use Rattle.jl_cmd.specs.of.Clear.{ClearDid}
+use Rattle.jl_cmd.specs.of.Reduce.{ReduceDid}
+use Rattle.jl_cmd.specs.of.Track.{Follows}
 
--- a call of the function of this name of the module in a file ended so, with the lines of its warnings still to be written
-pub record CallDid (file location : PathView) (name args : List ℕ) (v : Stretch) (out out' : SinkView) (e : Ended) (said : List ℕ) : Type 0 where
-  pub ends : CommandEnds (λ m. call_output v.means m name args) (Some file) (IsTrusted (root_of location) v.means.answer v.folder v.folder') ⊤ v.folder v.folder' out out' e
-  pub calls : Calls e v.calls v.calls'
-  pub lawful : v.folder.told → CallsIn file location name v.means.answer v.folder v.folder'
-  pub went : v.folder.told → GoesOn v.folder v.folder'
-  pub idle : v.folder.told → IsUncalled (status_of e) → MakesNone v.folder v.folder'
-  pub clock : v.host.told → IsUncalled (status_of e) → v.host'.moments ≡ v.host.moments
-  pub lines : CallSays file location name args v said
-  pub alone : CallLeaves file location name args v (EndedAt e)
-  pub comes : CallComes file location name args v (EndsWith e said out out') (EndedAt e)
+-- what a command did that ended so, by what was met, with these lines of warnings still to be written
+abbrev pub DidBy : Command → Course → Met → (err err' : SinkView) → Ended → (said : List ℕ) → Type 0
+DidBy (call file location name args) w met err err' e said = CallDid file location name args (stretch_of w) met w.out w.out' e said
+DidBy (hash args) w met err err' e said = ⊤
+DidBy (clear location m f key) w met err err' e said = ClearDid location m f key w.folder w.folder' e
+DidBy (reduce_size location limits) w met err err' e said = ReduceDid location limits w e
+DidBy tracker w met err err' e said = Follows w.input w.input' w.folder w.folder' err err' e
+
+-- the same of what words give
+abbrev pub GivenDid : Option Command → Course → Met → (err err' : SinkView) → Ended → (said : List ℕ) → Type 0
+GivenDid None w met err err' e said = ⊤
+GivenDid (Some s) w met err err' e said = DidBy s w met err err' e said

@@ -2,7 +2,6 @@
 use Rattle.std.specs.Prelude.{ℕ, List, [], ◌∷◌, ◌++◌, length, Option, Some, None, Result, Ok, Err, if◌then◌else◌, nat_lt, codes, ◌+◌, take, cond}
 use Rattle.std.specs.Fmt.{decimal}
 use Rattle.jl_lines.specs.Lines.{is_newline}
-use Rattle.jl_text.specs.Paths.{PathView}
 use Rattle.jl_text.specs.declared.limits.TheConstants.{MOST_TEXT_BYTES, MOST_INPUT_BYTES}
 use Rattle.jl_value.specs.declared.library.TaskError.{TaskError}
 use Rattle.jl_value.specs.declared.library.ModuleFault.{ModuleFault}
@@ -12,8 +11,7 @@ use Rattle.hex.specs.Hex.{encode_lower}
 use Rattle.jl_value.specs.Canonical.{text_of}
 use Rattle.jl_value.specs.Key.{key_of}
 use Rattle.jl_value.specs.Library.{Answer, value, error}
-use Rattle.jl_cmd.specs.Course.{Meanings, Course}
-use Rattle.jl_cmd.specs.Commands.{Command, call, hash, clear, reduce_size, tracker}
+use Rattle.jl_cmd.specs.Course.{Meanings}
 use Rattle.jl_cmd.specs.declared.arguments.ArgumentsFault.{ArgumentsFault}
 use Rattle.jl_cmd.specs.declared.arguments.ArgumentsFault.TheVariants.{UnknownFunction}
 use Rattle.jl_cmd.specs.Arguments.{arguments_of}
@@ -102,58 +100,3 @@ refuses_input n = record { bytes = []; status = status.refused; text = error_lin
 -- `tracker`: nothing. An input of more bytes than are taken is refused, with the number of the line that is read when so many are taken
 unfoldable pub tracker_output : List ℕ → Output
 tracker_output input = if nat_lt MOST_INPUT_BYTES (length input) then refuses_input (1 + newlines (take MOST_INPUT_BYTES input)) else record { bytes = []; status = status.done; text = [] }
-
--- the module file of a command, where it reads one
-abbrev pub module_of : Command → Option PathView
-module_of (call file location name args) = Some file
-module_of (hash args) = None
-module_of (clear location m f key) = None
-module_of (reduce_size location limits) = None
-module_of tracker = None
-
--- whether a command calls a function
-abbrev pub IsCalling : Command → Type 0
-IsCalling (call file location name args) = Unit {0}
-IsCalling (hash args) = ⊥
-IsCalling (clear location m f key) = ⊥
-IsCalling (reduce_size location limits) = ⊥
-IsCalling tracker = ⊥
-
--- whether a command reads the input
-abbrev pub IsReading : Command → Type 0
-IsReading (call file location name args) = ⊥
-IsReading (hash args) = ⊥
-IsReading (clear location m f key) = ⊥
-IsReading (reduce_size location limits) = ⊥
-IsReading tracker = Unit {0}
-
--- whether words give a command that does
-abbrev pub AreReading : Option Command → Type 0
-AreReading None = ⊥
-AreReading (Some s) = IsReading s
-
--- whether words give a command that uses the folder
-abbrev pub UseFolder : Option Command → Type 0
-UseFolder None = ⊥
-UseFolder (Some (call file location name args)) = Unit {0}
-UseFolder (Some (hash args)) = ⊥
-UseFolder (Some (clear location m f key)) = Unit {0}
-UseFolder (Some (reduce_size location limits)) = Unit {0}
-UseFolder (Some tracker) = Unit {0}
-
--- whether words give a command that reads the clock
-abbrev pub UseClock : Option Command → Type 0
-UseClock None = ⊥
-UseClock (Some (call file location name args)) = Unit {0}
-UseClock (Some (hash args)) = ⊥
-UseClock (Some (clear location m f key)) = ⊥
-UseClock (Some (reduce_size location limits)) = Unit {0}
-UseClock (Some tracker) = ⊥
-
--- what a command and the bytes of its module file give, over the meanings and the input of the run. Of `reduce-size` the bytes are its line
-abbrev pub output_of : Command → Course → List ℕ → Output
-output_of (call file location name args) w m = call_output w.means m name args
-output_of (hash args) w m = hash_output args
-output_of (clear location n f key) w m = prints_nothing
-output_of (reduce_size location limits) w m = prints_line m
-output_of tracker w m = tracker_output w.input.left

@@ -6,8 +6,8 @@ ghost use Rattle.jl_streams.specs.Views.{SinkAnswers, HostKeeps};
 ghost use Rattle.jl_words.specs.ModuleNames.{module_name_of};
 ghost use Rattle.jl_cmd.specs.Texts.{warning_lines};
 ghost use Rattle.jl_cmd.specs.Course.{meanings, stretch};
-ghost use Rattle.jl_cmd.specs.Run.{Writes, WritesWarned, Counts, Calls};
-ghost use Rattle.jl_cmd.specs.Did.{CallDid};
+ghost use Rattle.jl_cmd.specs.Computing.{Writes, WritesWarned, Counts, Calls};
+ghost use Rattle.jl_cmd.specs.of.Call.{CallEnded};
 
 use crate::compute::compute;
 use crate::computed::Computed;
@@ -118,7 +118,7 @@ pub fn call<L: Library, F: Folder, O: Sink, H: Host>(
 ) -> Warned
     requires token { (H.view host.old).token ≡ (F.view folder.old).token }
     requires file { IsSome (module_name_of file.now) }
-    ensures did { CallDid file.now location.now name.now args.now (stretch (meanings L.code L.line L.fault L.answer) (L.calls lib.old) (L.calls lib.new)
+    ensures ended { CallEnded file.now location.now name.now args.now (stretch (meanings L.code L.line L.fault L.answer) (L.calls lib.old) (L.calls lib.new)
         (F.view folder.old) (F.view folder.new) (H.view host.old) (H.view host.new)) (O.view out.old) (O.view out.new) result.ended result.lines }
     // Where the module was not read nothing else was used.
     ensures unused { (result.ended ≡ Ended.NoModule) ⊎ (result.ended ≡ Ended.FolderFault) → (lib.new ≡ lib.old) × (host.new ≡ host.old) }

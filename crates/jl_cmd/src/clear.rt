@@ -4,7 +4,7 @@ ghost use Rattle.jl_folder.specs.Views.{FolderAnswers};
 ghost use Rattle.jl_entry.specs.Names.{root_of};
 ghost use Rattle.jl_clear.specs.Cleared.{ClearsPaths};
 ghost use Rattle.jl_words.specs.Targets.{IsTarget};
-ghost use Rattle.jl_cmd.specs.Clears.{IsCleared, EndsClearing, Clears};
+ghost use Rattle.jl_cmd.specs.of.Clear.{IsCleared, EndsClearing, Clears};
 
 use crate::ended::Ended;
 use jl_clear::{Clear, clear_all, clear_function, clear_item, clear_module};

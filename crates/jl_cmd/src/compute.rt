@@ -20,7 +20,7 @@ ghost use Rattle.jl_cmd.specs.Output.{call_output, called as called_of, answers,
 ghost use Rattle.jl_cmd.specs.Caches.{CallsLawfully, IsOfCall};
 ghost use Rattle.jl_cmd.specs.Calling.{CallWarns, LeavesAsked, LeavesCalled, ComputedAt};
 ghost use Rattle.jl_cmd.specs.Coming.{ComesAsked, ComesCalled, HasComputed};
-ghost use Rattle.jl_cmd.specs.Run.{Computes, Counts, IsRefusal};
+ghost use Rattle.jl_cmd.specs.Computing.{Computes, Counts, IsRefusal};
 
 use crate::arguments::{ArgumentsFault, read_arguments};
 use crate::computed::{Computed, failed, printed, refused_arguments, refused_module};

@@ -3,7 +3,7 @@ ghost use Rattle.std.specs.Prelude.{◌≡◌, ◌++◌, ◌∷◌, [], IfOk, �
 ghost use Rattle.jl_value.specs.Form.{tree_of};
 ghost use Rattle.jl_value.specs.Canonical.{text_of};
 ghost use Rattle.jl_cmd.specs.Output.{prints, fails, refuses_arguments, refuses_module};
-ghost use Rattle.jl_cmd.specs.Run.{Computes, IsRefused, IsPrinted, IsFailed};
+ghost use Rattle.jl_cmd.specs.Computing.{Computes, IsRefused, IsPrinted, IsFailed};
 
 use crate::arguments::ArgumentsFault;
 use crate::texts::{arguments_line, module_line, task_line};

@@ -3,7 +3,7 @@ ghost use Rattle.std.specs.Prelude.{◌≡◌, ◌++◌, ◌∷◌, [], IfOk, st
 ghost use Rattle.hex.specs.Hex.{encode_lower};
 ghost use Rattle.jl_value.specs.Key.{key_of};
 ghost use Rattle.jl_cmd.specs.Output.{hash_output};
-ghost use Rattle.jl_cmd.specs.Run.{Computes};
+ghost use Rattle.jl_cmd.specs.Computing.{Computes};
 
 use crate::arguments::{ArgumentsFault, read_arguments};
 use crate::computed::{Computed, refused_arguments};

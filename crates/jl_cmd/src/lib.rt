@@ -15,4 +15,4 @@ mod tracker;
 mod warn;
 
 pub use arguments::{ArgumentsFault, read_arguments};
-pub use top::run;
+pub use top::{run, run_plain};

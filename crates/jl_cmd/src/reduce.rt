@@ -11,8 +11,8 @@ ghost use Rattle.jl_clear.specs.Taking.{IsTaking};
 ghost use Rattle.jl_evict.specs.Reducing.{IsOfEntry};
 ghost use Rattle.jl_cmd.specs.declared.computed.Computed.TheVariants as computed;
 ghost use Rattle.jl_cmd.specs.Caches.{CallsLawfully};
-ghost use Rattle.jl_cmd.specs.Run.{WritesWarned};
-ghost use Rattle.jl_cmd.specs.Reports.{report_of, IsReported, EndsReducing};
+ghost use Rattle.jl_cmd.specs.Computing.{WritesWarned};
+ghost use Rattle.jl_cmd.specs.of.Reduce.{report_of, IsReported, EndsReducing};
 
 use crate::call::finish;
 use crate::computed::Computed;
@@ -25,7 +25,7 @@ use jl_text::Text;
 use std::alloc::{AllocError, Global};
 
 // The line that tells how many items went, and how many bytes they had.
-#[tactic(auto, unfolding(crate::specs::Reports::report_of))]
+#[tactic(auto, unfolding(crate::specs::of::Reduce::report_of))]
 fn report_line(alloc: Global, count: u64, bytes: u64) -> Result<Text, AllocError>
     ensures { IfOk result (λ t. t ≡ report_of count bytes) }
 {

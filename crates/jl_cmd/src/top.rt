@@ -4,11 +4,10 @@ ghost use Rattle.jl_streams.specs.Views.{SinkKeeps};
 ghost use Rattle.jl_cmd.specs.Commands.{command_of, given_by};
 ghost use Rattle.jl_cmd.specs.Course.{meanings, course, IsClear};
 ghost use Rattle.jl_cmd.specs.declared.ended.Ended.TheVariants.{NoModule, FolderFault};
-ghost use Rattle.jl_cmd.specs.Output.{AreReading};
-ghost use Rattle.jl_cmd.specs.Resting.{GivenHasModule};
+ghost use Rattle.jl_cmd.specs.Needs.{GivenHasModule};
 ghost use Rattle.jl_cmd.specs.Endings.{last_text};
 ghost use Rattle.jl_cmd.specs.Reporting.{WroteBoth};
-ghost use Rattle.jl_cmd.specs.Ran.{Ran, Runs, LeavesAlone};
+ghost use Rattle.jl_cmd.specs.Ran.{Ran, RanTo, Runs, LeavesAlone};
 
 use crate::call::{Warned, call, ended, finish};
 use crate::clear::clear;
@@ -38,10 +37,9 @@ fn given<L: Library, F: Folder, S: Source, O: Sink, E: Sink, H: Host>(
     ensures ran { Ran (command_of settings.now) (course (meanings L.code L.line L.fault L.answer) (L.calls lib.old) (L.calls lib.new) (F.view folder.old) (F.view folder.new)
         (H.view host.old) (H.view host.new) (S.view input.old) (S.view input.new) (O.view out.old) (O.view out.new)) (E.view err.old) (E.view err.new)
         result.ended result.lines }
-    // What it has no use for it leaves alone; and none but the tracker writes to the error stream by itself.
+    // What it has no use for it leaves alone.
     ensures unused { LeavesAlone (command_of settings.now) ((result.ended ≡ NoModule) ⊎ (result.ended ≡ FolderFault))
         lib.old lib.new folder.old folder.new host.old host.new input.old input.new }
-    ensures quiet { (AreReading (command_of settings.now) → ⊥) → err.new ≡ err.old }
 {
     match settings {
         Settings::Call {
@@ -98,7 +96,6 @@ fn command<L: Library, F: Folder, S: Source, O: Sink, E: Sink, H: Host>(
         result.ended result.lines }
     ensures unused { LeavesAlone (given_by words.now (H.view host.old).processors) ((result.ended ≡ NoModule) ⊎ (result.ended ≡ FolderFault))
         lib.old lib.new folder.old folder.new host.old host.new input.old input.new }
-    ensures quiet { (AreReading (given_by words.now (H.view host.old).processors) → ⊥) → err.new ≡ err.old }
 {
     match settings(alloc, words, host.processors()) {
         Ok(settings) => given(alloc, &settings, lib, folder, input, out, err, host),
@@ -119,6 +116,32 @@ fn report<E: Sink>(err: &mut E, warned: &Warned)
     let _told = write_all(err, warned.ended.text().as_bytes());
 }
 
+/// Runs a command that needs no workers. Answers the exit status.
+///
+/// It waits for nobody but the input and the streams that it writes to.
+pub fn run_plain<L: Library, F: Folder, S: Source, O: Sink, E: Sink, H: Host>(
+    alloc: Global,
+    words: &[String],
+    lib: &mut L,
+    folder: &mut F,
+    input: &mut S,
+    out: &mut O,
+    err: &mut E,
+    host: &mut H,
+) -> u8
+    requires token { (H.view host.old).token ≡ (F.view folder.old).token }
+    ensures ran { RanTo (given_by words.now (H.view host.old).processors) (course (meanings L.code L.line L.fault L.answer) (L.calls lib.old) (L.calls lib.new) (F.view folder.old) (F.view folder.new)
+        (H.view host.old) (H.view host.new) (S.view input.old) (S.view input.new) (O.view out.old) (O.view out.new)) (E.view err.old) (E.view err.new)
+        result }
+    // What the command has no use for it leaves alone.
+    ensures unused { LeavesAlone (given_by words.now (H.view host.old).processors) ((result ≡ 9) ⊎ (result ≡ 10))
+        lib.old lib.new folder.old folder.new host.old host.new input.old input.new }
+{
+    let warned = command(alloc, words, lib, folder, input, out, err, host);
+    report(err, &warned);
+    warned.ended.status()
+}
+
 /// Runs the command that the words give, over a library, a folder, streams and a host. Answers the exit status.
 ///
 /// The words hold neither the program's own name nor a word that gives its token.
@@ -133,6 +156,10 @@ pub fn run<L: Library, F: Folder, S: Source, O: Sink, E: Sink, H: Host>(
     host: &mut H,
 ) -> u8
     requires token { (H.view host.old).token ≡ (F.view folder.old).token }
+    ensures ran { RanTo (given_by words.now (H.view host.old).processors) (course (meanings L.code L.line L.fault L.answer) (L.calls lib.old) (L.calls lib.new) (F.view folder.old) (F.view folder.new)
+        (H.view host.old) (H.view host.new) (S.view input.old) (S.view input.new) (O.view out.old) (O.view out.new)) (E.view err.old) (E.view err.new)
+        result }
+    // What that says of the status.
     ensures runs { Runs (given_by words.now (H.view host.old).processors) (course (meanings L.code L.line L.fault L.answer) (L.calls lib.old) (L.calls lib.new) (F.view folder.old) (F.view folder.new)
         (H.view host.old) (H.view host.new) (S.view input.old) (S.view input.new) (O.view out.old) (O.view out.new)) (E.view err.old) (E.view err.new)
         result }
@@ -140,7 +167,5 @@ pub fn run<L: Library, F: Folder, S: Source, O: Sink, E: Sink, H: Host>(
     ensures unused { LeavesAlone (given_by words.now (H.view host.old).processors) ((result ≡ 9) ⊎ (result ≡ 10))
         lib.old lib.new folder.old folder.new host.old host.new input.old input.new }
 {
-    let warned = command(alloc, words, lib, folder, input, out, err, host);
-    report(err, &warned);
-    warned.ended.status()
+    run_plain(alloc, words, lib, folder, input, out, err, host)
 }

@@ -2,7 +2,7 @@
 ghost use Rattle.std.specs.Prelude.{◌≡◌};
 ghost use Rattle.jl_folder.specs.Views.{FolderKeeps};
 ghost use Rattle.jl_streams.specs.Views.{SourceAnswers, SinkKeeps};
-ghost use Rattle.jl_cmd.specs.Following.{EndsTracked, Follows};
+ghost use Rattle.jl_cmd.specs.of.Track.{EndsTracked, Follows};
 
 use crate::ended::Ended;
 use crate::texts::too_much_line;

@@ -10,36 +10,36 @@ use Rattle.jl_cmd.specs.declared.ended.Ended.TheVariants.{NoMemory, NoModule, Fo
 use Rattle.jl_cmd.specs.Caches.{CallsLawfully, IsOfCall}
 use Rattle.jl_cmd.specs.Course.{Stretch, meanings, stretch}
 use Rattle.jl_cmd.specs.Output.{call_output}
-use Rattle.jl_cmd.specs.Run.{Computes}
+use Rattle.jl_cmd.specs.Computing.{Computes}
 use Rattle.jl_cmd.specs.Texts.{warning_lines}
 use Rattle.jl_cmd.proofs.CacheLemmas.{reads_over}
 use Rattle.jl_cmd.proofs.CallingLemmas.{Parts}
-use Rattle.jl_cmd.proofs.CallEnds.{call_stopped, call_read, did_as}
+use Rattle.jl_cmd.proofs.CallEnds.{call_stopped, call_read, ended_as}
 use Rattle.jl_cmd.proofs.IdleLemmas.{waits_none, written_read}
 use Rattle.jl_rely.proofs.Composed.{goes_waits}
 use Rattle.jl_cmd.proofs.call.call.Goals as goal
 
-pub returns-in_default-clause-did : goal.returns-in_default-clause-did
-returns-in_default-clause-did g c =
-    did_as _ _ _ _ _ _ _ _ _ _ _ (sym c.ended.ensures.ended) (sym c.ended.ensures.lines) (call_stopped _ _ _ _ _ _ NoMemory [] (λ P. tt) (inl refl) (λ told. refl) refl (λ told. waits_none _) refl refl)
+pub returns-in_default-clause-ended : goal.returns-in_default-clause-ended
+returns-in_default-clause-ended g c =
+    ended_as _ _ _ _ _ _ _ _ _ _ _ (sym c.ended.ensures.ended) (sym c.ended.ensures.lines) (call_stopped _ _ _ _ _ _ NoMemory [] (λ P. tt) (inl refl) (λ told. refl) refl (λ told. waits_none _) refl refl)
 
-pub returns-in-NoFile-clause-did : goal.returns-in-NoFile-clause-did
-returns-in-NoFile-clause-did g c =
-    did_as _ _ _ _ _ _ _ _ _ _ _ (sym c.ended-in-NoFile.ensures.ended) (sym c.ended-in-NoFile.ensures.lines)
+pub returns-in-NoFile-clause-ended : goal.returns-in-NoFile-clause-ended
+returns-in-NoFile-clause-ended g c =
+    ended_as _ _ _ _ _ _ _ _ _ _ _ (sym c.ended-in-NoFile.ensures.ended) (sym c.ended-in-NoFile.ensures.lines)
     (call_stopped _ _ _ _ _ _ NoModule [] (λ P. tt) refl (c.in-NoFile.ensures.reads, λ told. refl) c.read_file.ensures.frame.token c.read_file.ensures.waits refl refl)
 
-pub returns-in-Failed-clause-did : goal.returns-in-Failed-clause-did
-returns-in-Failed-clause-did g c =
-    did_as _ _ _ _ _ _ _ _ _ _ _ (sym c.ended-in-Failed.ensures.ended) (sym c.ended-in-Failed.ensures.lines)
+pub returns-in-Failed-clause-ended : goal.returns-in-Failed-clause-ended
+returns-in-Failed-clause-ended g c =
+    ended_as _ _ _ _ _ _ _ _ _ _ _ (sym c.ended-in-Failed.ensures.ended) (sym c.ended-in-Failed.ensures.lines)
     (call_stopped _ _ _ _ _ _ FolderFault [] (λ P. tt) refl (c.read_file.ensures.frame.faults.failed c.in-Failed.is, λ told. refl) c.read_file.ensures.frame.token c.read_file.ensures.waits refl refl)
 
-pub returns-clause-did : goal.returns-clause-did
-returns-clause-did g c =
-    did_as _ _ _ _ _ _ _ _ _ _ _ (sym c.ended-in-NoMemory.ensures.ended) (sym c.ended-in-NoMemory.ensures.lines)
+pub returns-clause-ended : goal.returns-clause-ended
+returns-clause-ended g c =
+    ended_as _ _ _ _ _ _ _ _ _ _ _ (sym c.ended-in-NoMemory.ensures.ended) (sym c.ended-in-NoMemory.ensures.lines)
     (call_stopped _ _ _ _ _ _ NoMemory [] (λ P. tt) (inl refl) (λ told. refl) c.read_file.ensures.frame.token c.read_file.ensures.waits refl refl)
 
-pub returns-in-Bytes-clause-did : goal.returns-in-Bytes-clause-did
-returns-in-Bytes-clause-did g c =
+pub returns-in-Bytes-clause-ended : goal.returns-in-Bytes-clause-ended
+returns-in-Bytes-clause-ended g c =
     let folder = g.F.Folder in
     let host = g.H.Host in
     let lib = g.L.Library in

@@ -1,6 +1,6 @@
 use Rattle.std.proofs.Common.{ℕ, List, inl, inr, refl, subst}
 use Rattle.jl_cmd.specs.declared.computed.Computed.TheVariants as computed
-use Rattle.jl_cmd.specs.Run.{Writes}
+use Rattle.jl_cmd.specs.Computing.{Writes}
 use Rattle.jl_cmd.proofs.reduce.print_report.Goals as goal
 
 pub returns-in-Ok-clause-writes : goal.returns-in-Ok-clause-writes

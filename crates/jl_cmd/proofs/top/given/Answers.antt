@@ -1,7 +1,6 @@
-use Rattle.std.proofs.Common.{◌≡◌, ◌∙◌, ℕ, List, [], Option, Some, None, refl, sym, ap, subst}
+use Rattle.std.proofs.Common.{◌≡◌, ◌∙◌, ℕ, List, [], Option, Some, None, refl, sym, ap}
 use Rattle.jl_words.specs.declared.types.Settings.{Settings}
 use Rattle.jl_cmd.specs.Commands.{Command, call, hash, clear, reduce_size, tracker, command_of}
-use Rattle.jl_cmd.specs.Output.{AreReading}
 use Rattle.jl_cmd.proofs.RanLemmas.{ran_usage, ran_hash, ran_call, ran_clear, ran_reduce, ran_tracker, ran_as, call_alone, clear_alone, reduce_alone, tracker_alone, none_alone, alone_as}
 use Rattle.jl_cmd.proofs.top.given.Goals as goal
 
@@ -12,7 +11,7 @@ of_settings s t is = ap command_of (sym is)
 pub returns-in-Call-clause-ran : goal.returns-in-Call-clause-ran
 returns-in-Call-clause-ran g c =
     ran_as _ _ _ _ _ _ _ _ _ (ap (λ (name : List ℕ). Some (call c.in-Call.module c.in-Call.location name c.as_str-in-Call.result.now)) c.as_str.ensures ∙ ap (λ (args : List ℕ). Some (call c.in-Call.module c.in-Call.location c.in-Call.func args)) c.as_str-in-Call.ensures ∙ of_settings _ _ c.in-Call.is) refl refl
-    (ran_call _ _ _ _ _ _ _ _ _ _ _ _ _ _ _ c.call.result.ended c.call.result.lines c.call.ensures.did c.call.ensures.frame c.call.ensures.out c.call.ensures.host)
+    (ran_call _ _ _ _ _ _ _ _ _ _ _ _ _ _ _ c.call.result.ended c.call.result.lines c.call.ensures.ended c.call.ensures.frame c.call.ensures.out c.call.ensures.host)
 
 pub returns-in-Hash-clause-ran : goal.returns-in-Hash-clause-ran
 returns-in-Hash-clause-ran g c =
@@ -46,9 +45,6 @@ returns-in-Tracker-clause-ran g c =
 
 pub returns-in-Gen-clause-ran : goal.returns-in-Gen-clause-ran
 returns-in-Gen-clause-ran g c = ran_as _ _ _ _ _ _ _ _ _ (of_settings _ _ c.in-Gen.is) (sym c.ended-in-Gen.ensures.ended) (sym c.ended-in-Gen.ensures.lines) (ran_usage _ _ _ _ _ _ _)
-
-pub returns-in-Tracker-clause-quiet : goal.returns-in-Tracker-clause-quiet
-returns-in-Tracker-clause-quiet g c = λ none. absurd (none (subst (λ (s : Settings). AreReading (command_of s)) (sym c.in-Tracker.is) tt))
 
 pub returns-in-Call-clause-unused : goal.returns-in-Call-clause-unused
 returns-in-Call-clause-unused g c = alone_as _ _ _ _ _ _ _ _ _ _ _ _ (of_settings _ _ c.in-Call.is) (λ u. u) (call_alone _ _ _ _ _ _ _ _ _ c.in-Call.module c.in-Call.location c.in-Call.func c.in-Call.args refl c.call.ensures.unused)

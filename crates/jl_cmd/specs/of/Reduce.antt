@@ -1,10 +1,10 @@
 -- What the command `reduce-size` takes away and prints, and how it ends.
-use Rattle.std.specs.Prelude.{◌≡◌, ℕ, List, [], ◌∷◌, ◌++◌, Option, Some, None, codes, ⊤}
+use Rattle.std.specs.Prelude.{◌≡◌, ◌≢◌, ℕ, List, [], ◌∷◌, ◌++◌, codes}
 use Rattle.std.specs.Fmt.{decimal}
 use Rattle.jl_text.specs.Counts.{Rose}
 use Rattle.jl_text.specs.Paths.{PathView}
 use Rattle.jl_folder.specs.Views.{FolderView, state, moved}
-use Rattle.jl_streams.specs.Moments.{moment_of}
+use Rattle.jl_streams.specs.Moments.{moment_of, moments_after}
 use Rattle.jl_streams.specs.Streams.{WritesPrefix}
 use Rattle.jl_streams.specs.Views.{SinkView, HostView}
 use Rattle.jl_entry.specs.Names.{root_of}
@@ -17,9 +17,9 @@ use Rattle.jl_evict.specs.declared.reducing.Reduced.TheVariants as reduced
 use Rattle.jl_evict.specs.Reducing.{IsOfEntry, EvictsOf}
 use Rattle.jl_cmd.specs.declared.ended.Ended.{Ended}
 use Rattle.jl_cmd.specs.declared.ended.Ended.TheVariants.{Done, WriteFault, NoMemory, FolderFault}
-use Rattle.jl_cmd.specs.Commands.{Command, call, hash, clear, reduce_size, tracker}
 use Rattle.jl_cmd.specs.Course.{Course}
 use Rattle.jl_cmd.specs.Endings.{WritesNothing, status_of}
+use Rattle.jl_cmd.specs.Statuses as status
 
 -- the line that tells how many items went, and how many bytes they had
 unfoldable pub report_of : (count bytes : ℕ) → List ℕ
@@ -50,20 +50,7 @@ pub record ReducesLawfully (location : PathView) (answer : Answers) (old new : F
   pub takes : OwnMoves old.token (IsTaking (root_of location) (IsOfEntry (root_of location))) (moved old new)
   pub lawful : LawfulThroughout (root_of location) answer old.token (state old) (moved old new)
 
--- where words give that command, the run ended so, with this status
-abbrev pub GivenReduces : Option Command → Course → ℕ → Type 0
-GivenReduces None w n = ⊤
-GivenReduces (Some (call file location name args)) w n = ⊤
-GivenReduces (Some (hash args)) w n = ⊤
-GivenReduces (Some (clear location m f key)) w n = ⊤
-GivenReduces (Some (reduce_size location limits)) w n =
-    (e : Ended) × (n ≡ status_of e) × EndsReducing e (IsReported location limits w.host w.folder w.folder') w.folder w.folder' w.out w.out'
-GivenReduces (Some tracker) w n = ⊤
-
--- the line that a command prints was made so: `reduce-size` tells of what it reports, and no other command has such a line
-abbrev pub MadeBy : Command → Course → List ℕ → Type 0
-MadeBy (call file location name args) w line = ⊤
-MadeBy (hash args) w line = ⊤
-MadeBy (clear location m f key) w line = ⊤
-MadeBy (reduce_size location limits) w line = (count bytes : ℕ) × IsReported location limits w.host w.folder w.folder' count bytes × (line ≡ report_of count bytes)
-MadeBy tracker w line = ⊤
+-- what a reducing did: it ended so, and read the clock once, unless memory was wanting for the words
+pub record ReduceDid (location : PathView) (limits : Limits) (w : Course) (e : Ended) : Type 0 where
+  pub ends : EndsReducing e (IsReported location limits w.host w.folder w.folder') w.folder w.folder' w.out w.out'
+  pub clock : w.host.told → status_of e ≢ status.no_memory → w.host'.moments ≡ moments_after w.host.moments

@@ -13,9 +13,6 @@ use Rattle.jl_clear.specs.Cleared.{ClearsPaths}
 use Rattle.jl_clear.specs.Taking.{IsTaking, IsInside}
 use Rattle.jl_clear.specs.declared.removing.Clear.{Clear}
 use Rattle.jl_clear.specs.declared.removing.Clear.TheVariants as clear_answer
-use Rattle.jl_cmd.specs.Course.{Course}
-use Rattle.jl_cmd.specs.Commands.{Command, call, hash, clear, reduce_size, tracker}
-use Rattle.jl_cmd.specs.Endings.{status_of}
 use Rattle.jl_cmd.specs.declared.ended.Ended.{Ended}
 use Rattle.jl_cmd.specs.declared.ended.Ended.TheVariants.{Done, NoMemory, FolderFault}
 
@@ -49,12 +46,7 @@ clear_of _ = clear_answer.NoMemory
 abbrev pub Clears : (location : PathView) → (m f : Option (List ℕ)) → (key : Option Key) → Ended → (old new : FolderView) → Type 0
 Clears location m f key e old new = ClearsPaths (root_of location) (IsCleared location m f key) (clear_of e) old new
 
--- where words give that command, the run ended so, with this status
-abbrev pub GivenClears : Option Command → Course → ℕ → Type 0
-GivenClears None w n = ⊤
-GivenClears (Some (call file location name args)) w n = ⊤
-GivenClears (Some (hash args)) w n = ⊤
-GivenClears (Some (clear location m f key)) w n =
-    (e : Ended) × (n ≡ status_of e) × EndsClearing e w.folder w.folder' × (w.folder.told → Clears location m f key e w.folder w.folder')
-GivenClears (Some (reduce_size location limits)) w n = ⊤
-GivenClears (Some tracker) w n = ⊤
+-- what a clearing did
+pub record ClearDid (location : PathView) (m f : Option (List ℕ)) (key : Option Key) (old new : FolderView) (e : Ended) : Type 0 where
+  pub ends : EndsClearing e old new
+  pub clears : old.told → Clears location m f key e old new

@@ -8,9 +8,7 @@ use Rattle.jl_cmd.specs.declared.computed.Computed.{Computed}
 use Rattle.jl_cmd.specs.declared.computed.Computed.TheVariants as computed
 use Rattle.jl_cmd.specs.declared.ended.Ended.{Ended}
 use Rattle.jl_cmd.specs.declared.ended.Ended.TheVariants.{Done, Failed, Usage, Refused, ReadFault, WriteFault, NoMemory, NoModule, FolderFault}
-use Rattle.jl_cmd.specs.Commands.{Command, call, hash, clear, reduce_size, tracker}
-use Rattle.jl_cmd.specs.Course.{Course}
-use Rattle.jl_cmd.specs.Output.{Output, IsCalling}
+use Rattle.jl_cmd.specs.Output.{Output}
 use Rattle.jl_cmd.specs.Endings.{WritesNothing}
 use Rattle.jl_cmd.specs.Statuses as status
 
@@ -86,21 +84,3 @@ Calls (Refused t) old new = new ≡ old
 Calls NoModule old new = new ≡ old
 Calls FolderFault old new = new ≡ old
 Calls NoMemory old new = (new ≡ old) ⊎ (new ≡ next_count old)
-
--- the same of a command, which may call none
-abbrev pub CommandCalls : Command → Ended → ℕ → ℕ → Type 0
-CommandCalls (call file location name args) e old new = Calls e old new
-CommandCalls (hash args) e old new = new ≡ old
-CommandCalls (clear location m f key) e old new = new ≡ old
-CommandCalls (reduce_size location limits) e old new = new ≡ old
-CommandCalls tracker e old new = new ≡ old
-
--- and of words
-abbrev pub GivenCalls : Option Command → Course → Ended → Type 0
-GivenCalls None w e = w.calls' ≡ w.calls
-GivenCalls (Some s) w e = CommandCalls s e w.calls w.calls'
-
--- the words give the settings of a command that calls a function
-abbrev pub AreCalling : Option Command → Type 0
-AreCalling None = ⊥
-AreCalling (Some s) = IsCalling s

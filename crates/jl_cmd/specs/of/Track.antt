@@ -23,7 +23,6 @@ use Rattle.jl_tracker.specs.Tracking.{Tracks}
 use Rattle.jl_cmd.specs.declared.ended.Ended.{Ended}
 use Rattle.jl_cmd.specs.declared.ended.Ended.TheVariants.{Done, Refused, ReadFault, NoMemory}
 use Rattle.jl_cmd.specs.Course.{Course, IsClear}
-use Rattle.jl_cmd.specs.Commands.{Command, call, hash, clear, reduce_size, tracker}
 use Rattle.jl_cmd.specs.Endings.{status_of, last_text}
 use Rattle.jl_cmd.specs.Output.{refuses_input}
 use Rattle.jl_cmd.specs.Reporting.{sink_at}
@@ -66,15 +65,6 @@ pub record Follows (input input' : SourceView) (folder folder' : FolderView) (er
   pub moves : folder.told → MovesAsked input folder folder'
   pub ends : EndsTracked tracked e
 
--- the same where words give the tracker
-abbrev pub GivenFollows : Option Command → Course → (err err' : SinkView) → Ended → Type 0
-GivenFollows None w err err' e = ⊤
-GivenFollows (Some (call file location name args)) w err err' e = ⊤
-GivenFollows (Some (hash args)) w err err' e = ⊤
-GivenFollows (Some (clear location m f key)) w err err' e = ⊤
-GivenFollows (Some (reduce_size location limits)) w err err' e = ⊤
-GivenFollows (Some tracker) w err err' e = Follows w.input w.input' w.folder w.folder' err err' e
-
 -- The tracker followed the lines of the input; where it was done the error stream stood there.
 -- The status is that of its answer, and behind what was written by then stands the text of that.
 pub record RunsTracker (w : Course) (err err' : SinkView) (n : ℕ) : Type 0 where
@@ -84,12 +74,3 @@ pub record RunsTracker (w : Course) (err err' : SinkView) (n : ℕ) : Type 0 whe
   pub later : point.faults ≤ err'.faults
   pub status : n ≡ status_of ended
   pub text : IsClear (sink_at err point) err' → err'.written ≡ point.written ++ last_text ended
-
--- the same where words give the tracker
-abbrev pub GivenTracks : Option Command → Course → (err err' : SinkView) → ℕ → Type 0
-GivenTracks None w err err' n = ⊤
-GivenTracks (Some (call file location name args)) w err err' n = ⊤
-GivenTracks (Some (hash args)) w err err' n = ⊤
-GivenTracks (Some (clear location m f key)) w err err' n = ⊤
-GivenTracks (Some (reduce_size location limits)) w err err' n = ⊤
-GivenTracks (Some tracker) w err err' n = RunsTracker w err err' n

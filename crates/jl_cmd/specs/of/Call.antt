@@ -1,0 +1,70 @@
+-- What a call of a function did, before its texts are written.
+use Rattle.std.specs.Prelude.{◌≡◌, ◌⊎◌, ℕ, List, [], Some, ⊤}
+use Rattle.jl_text.specs.Paths.{PathView}
+use Rattle.jl_text.specs.Counts.{Rose}
+use Rattle.jl_folder.specs.Views.{FolderView, state, moved}
+use Rattle.jl_streams.specs.Views.{SinkView}
+use Rattle.jl_rely.specs.Claims.{GoesOn}
+use Rattle.jl_rely.specs.Steps.{IsLone}
+use Rattle.jl_entry.specs.Names.{root_of}
+use Rattle.jl_protocol.specs.Tidy.{IsSound}
+use Rattle.jl_store.specs.declared.memory.Warning.{Warning}
+use Rattle.jl_store.specs.Trust.{IsTrusted}
+use Rattle.jl_words.specs.ModuleNames.{module_name_of}
+use Rattle.jl_cmd.specs.declared.ended.Ended.{Ended}
+use Rattle.jl_cmd.specs.declared.ended.Ended.TheVariants.{Done, Failed, Usage, Refused, ReadFault, WriteFault, NoMemory, NoModule, FolderFault}
+use Rattle.jl_cmd.specs.Calling.{memory_at, AreOfCall, LeavesRead, EndedAt}
+use Rattle.jl_cmd.specs.Caches.{CallsIn, MakesNone}
+use Rattle.jl_cmd.specs.Coming.{CallComes, EndsWith}
+use Rattle.jl_cmd.specs.Computing.{Calls}
+use Rattle.jl_cmd.specs.Course.{Stretch}
+use Rattle.jl_cmd.specs.Endings.{Finishes, LacksTold, WritesNothing, status_of}
+use Rattle.jl_cmd.specs.Met.{Met, HasRead, bytes_in}
+use Rattle.jl_cmd.specs.Output.{call_output}
+use Rattle.jl_cmd.specs.Texts.{warning_lines}
+use Rattle.jl_cmd.specs.Uncalled.{IsUncalled}
+
+-- ---- what is said and left
+
+-- the lines of the warnings of a call of a module's function, over the bytes that were read of that
+abbrev pub CallSays : (file location : PathView) → (bytes name args : List ℕ) → Stretch → List ℕ → Type 0
+CallSays file location bytes name args v lines =
+    (m : List ℕ) → module_name_of file ≡ Some m
+    → (ws : List Warning) × (lines ≡ warning_lines m ws) × AreOfCall v.means file (memory_at location m v.folder.token) bytes name args v.folder v.folder' ws
+
+-- Where the folder tells and was sound, no other moved and no fault of it rose, a call that told a value or an error of its function left the
+-- folder as the cached call does
+abbrev pub CallLeaves : (file location : PathView) → (bytes name args : List ℕ) → Stretch → ((ℕ → Type 0) → Type 0) → Type 0
+CallLeaves file location bytes name args v At =
+    v.folder.told → (m : List ℕ) → module_name_of file ≡ Some m → IsLone v.folder.token (moved v.folder v.folder') → IsSound (root_of location) v.means.answer (state v.folder)
+    → (Rose v.folder.faults v.folder'.faults → ⊥) → At (LeavesRead file (memory_at location m v.folder.token) bytes name args v)
+
+-- ---- what is done
+
+-- a call of the function of this name of the module in a file ended so, by what was met, with the lines of its warnings still to be written: the
+-- library's count; no move and no reading of the clock where none was called; its warnings; what a lone call left; and how it came to its answer
+pub record CallDid (file location : PathView) (name args : List ℕ) (v : Stretch) (met : Met) (out out' : SinkView) (e : Ended) (said : List ℕ) : Type 0 where
+  pub calls : Calls e v.calls v.calls'
+  pub idle : v.folder.told → IsUncalled (status_of e) → MakesNone v.folder v.folder'
+  pub clock : v.host.told → IsUncalled (status_of e) → v.host'.moments ≡ v.host.moments
+  pub lines : CallSays file location (bytes_in met) name args v said
+  pub alone : CallLeaves file location (bytes_in met) name args v (EndedAt e)
+  pub comes : CallComes file location (bytes_in met) name args v (EndsWith e said out out') (EndedAt e)
+
+-- its output was computed from the bytes that were read and written so; or the file was lacked, or the folder's faults rose, or memory was wanting
+abbrev pub CallEnds : (file location : PathView) → (name args : List ℕ) → Stretch → Met → (out out' : SinkView) → Ended → Type 0
+CallEnds file location name args v met out out' NoMemory = WritesNothing out out'
+CallEnds file location name args v met out out' NoModule = LacksTold (Some file) v.folder v.folder' × WritesNothing out out'
+CallEnds file location name args v met out out' FolderFault = Rose v.folder.faults v.folder'.faults × WritesNothing out out'
+CallEnds file location name args v met out out' Usage = ⊥
+CallEnds file location name args v met out out' ReadFault = ⊥
+CallEnds file location name args v met out out' e =
+    HasRead file v.folder v.folder' met × Finishes (call_output v.means (bytes_in met) name args) (IsTrusted (root_of location) v.means.answer v.folder v.folder') out out' e
+
+-- a call met this, ended so by lawful moves of its own, and did that
+pub record CallEnded (file location : PathView) (name args : List ℕ) (v : Stretch) (out out' : SinkView) (e : Ended) (said : List ℕ) : Type 0 where
+  pub met : Met
+  pub ends : CallEnds file location name args v met out out' e
+  pub lawful : v.folder.told → CallsIn file location name v.means.answer v.folder v.folder'
+  pub went : v.folder.told → GoesOn v.folder v.folder'
+  pub did : CallDid file location name args v met out out' e said
