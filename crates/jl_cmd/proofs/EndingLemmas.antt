@@ -172,7 +172,7 @@ module _ (s : Command) (w : Course) (met : Met) (buffered : T (needs_of s).buffe
   finished_so trusted FolderFault is_met rests h = absurd h
 
 -- an ending at which nothing need have been met
-pub IsShort : Ended → Type 0
+abbrev pub IsShort : Ended → Type 0
 IsShort Done = ⊥
 IsShort (Failed t) = ⊥
 IsShort (Refused t) = ⊥

@@ -19,6 +19,7 @@ use Rattle.jl_clear.specs.Taking.{IsTaking}
 use Rattle.jl_store.proofs.Lawfully.{lawful_none}
 use Rattle.jl_tracker.specs.declared.following.Tracked.{Tracked}
 use Rattle.jl_tracker.specs.declared.following.Tracked.TheVariants as tracked
+use Rattle.jl_tracker.specs.Stages.{SinkPoint, sink_point}
 use Rattle.jl_evict.specs.Reducing.{IsOfEntry}
 use Rattle.jl_cmd.specs.declared.computed.Computed.{Computed}
 use Rattle.jl_cmd.specs.declared.ended.Ended.{Ended}
@@ -44,7 +45,7 @@ use Rattle.jl_cmd.proofs.ClearEnds.{clears_so, runs_clear}
 use Rattle.jl_cmd.proofs.EndingLemmas.{Finished, finished_so, finished_short, finishes_so, all_buffered}
 use Rattle.jl_cmd.proofs.IdleLemmas.{own_none, silent_none}
 use Rattle.jl_cmd.proofs.ReduceEnds.{report_met, reduces_so, runs_reduce}
-use Rattle.jl_cmd.proofs.TrackerEnds.{follows_ends, follows_tells, follows_nothing}
+use Rattle.jl_cmd.proofs.TrackerEnds.{follows_ends, follows_at, follows_tells, follows_nothing}
 use Rattle.jl_cmd.proofs.TrackerMoves.{asked, asks_nothing}
 
 -- ---- frames
@@ -72,7 +73,7 @@ folder_keeps : (Fails : Type 0) (old new : FolderView) → FolderAnswers Fails o
 folder_keeps Fails old new f = record { told = f.told; token = f.token; opens = f.opens; later = f.faults.later }
 
 -- nothing was written to the error stream
-pub tells_nothing : (given : Option Command) (err : SinkView) → Tells given err err
+pub tells_nothing : (given : Option Command) (err : SinkView) → Tells given err (sink_point err)
 tells_nothing given err = record { quiet = λ none. refl; behind = λ clear. ([], sym (append-nil _)) }
 
 -- ---- nothing is run
@@ -123,7 +124,7 @@ module _ (means : Meanings) (calls : ℕ) (folder : FolderView) (host : HostView
       not_cleared is = cc
 
   -- nor was anything done
-  did_nothing : (given : Option Command) → GivenDid given rest of_nothing err err NoMemory []
+  did_nothing : (given : Option Command) → GivenDid given rest of_nothing err (sink_point err) NoMemory []
   did_nothing None = tt
   did_nothing (Some (call file location name args)) = record {
     calls = inl refl;
@@ -143,7 +144,7 @@ module _ (means : Meanings) (calls : ℕ) (folder : FolderView) (host : HostView
   puts_nothing (Some s) = λ p none. absurd (none (all_buffered (Some s)))
 
   -- wrong usage
-  pub ran_usage : Ran None rest err err Usage []
+  pub ran_usage : Ran None rest err (sink_point err) Usage []
   ran_usage = record {
     met = of_nothing;
     ends = refl;
@@ -159,7 +160,7 @@ module _ (means : Meanings) (calls : ℕ) (folder : FolderView) (host : HostView
   }
 
   -- want of memory, whatever is given
-  pub ran_memory : (given : Option Command) → Ran given rest err err NoMemory []
+  pub ran_memory : (given : Option Command) → Ran given rest err (sink_point err) NoMemory []
   ran_memory given = record {
     met = of_nothing;
     ends = tt;
@@ -180,7 +181,7 @@ module _ (means : Meanings) (calls : ℕ) (folder : FolderView) (host : HostView
   abbrev printed : Course
   printed = course means calls calls folder folder host host input input out out'
 
-  pub ran_hash : (args : List ℕ) (c : Computed) (e : Ended) → Computes (hash_output args) ⊤ c → Writes c e out out' → SinkAnswers (e ≡ WriteFault) out out' → Ran (Some (hash args)) printed err err e []
+  pub ran_hash : (args : List ℕ) (c : Computed) (e : Ended) → Computes (hash_output args) ⊤ c → Writes c e out out' → SinkAnswers (e ≡ WriteFault) out out' → Ran (Some (hash args)) printed err (sink_point err) e []
   ran_hash args c e computes writes answers =
       let fin : Finishes (hash_output args) ⊤ out out' e = finishes_so (hash_output args) ⊤ out out' c e computes (inl writes) in
       let done = finished_so (hash args) printed of_nothing tt ⊤ e refl (λ p. tt) fin in
@@ -227,7 +228,7 @@ module _ (means : Meanings) (calls calls' : ℕ) (folder folder' : FolderView) (
   call_finished file location name args met ReadFault lawful ends = absurd ends
 
   pub ran_call : (file location : PathView) (name args : List ℕ) (e : Ended) (said : List ℕ) → CallEnded file location name args (stretch_of called) out out' e said → FolderKeeps folder folder' → SinkAnswers (e ≡ WriteFault) out out' → HostKeeps host host'
-      → Ran (Some (call file location name args)) called err err e said
+      → Ran (Some (call file location name args)) called err (sink_point err) e said
   ran_call file location name args e said ended keeps answers hosts =
       let done = call_finished file location name args ended.met e ended.lawful ended.ends in
       record {
@@ -256,7 +257,7 @@ module _ (means : Meanings) (calls : ℕ) (folder folder' : FolderView) (host : 
   abbrev cleared : Course
   cleared = course means calls calls folder folder' host host input input out out
 
-  pub ran_clear : (location : PathView) (m f : Option (List ℕ)) (key : Option Key) (e : Ended) → EndsClearing e folder folder' → (folder.told → Clears location m f key e folder folder') → FolderAnswers (e ≡ FolderFault) folder folder' → Ran (Some (clear location m f key)) cleared err err e []
+  pub ran_clear : (location : PathView) (m f : Option (List ℕ)) (key : Option Key) (e : Ended) → EndsClearing e folder folder' → (folder.told → Clears location m f key e folder folder') → FolderAnswers (e ≡ FolderFault) folder folder' → Ran (Some (clear location m f key)) cleared err (sink_point err) e []
   ran_clear location m f key e ends clears answers = record {
     met = of_nothing;
     ends = (clears_so location m f key cleared e (λ told. refl) ends).ends;
@@ -284,7 +285,7 @@ module _ (means : Meanings) (calls : ℕ) (folder folder' : FolderView) (host ho
   reduced = course means calls calls folder folder' host host' input input out out'
 
   pub ran_reduce : (location : PathView) (limits : Limits) (e : Ended) → EndsReducing e (IsReported location limits host folder folder') folder folder' out out' → (folder.told → OwnMoves folder.token (IsTaking (root_of location) (IsOfEntry (root_of location))) (moved folder folder')) → (folder.told → CallsLawfully location means.answer AnyMove folder folder')
-      → FolderAnswers (e ≡ FolderFault) folder folder' → SinkAnswers (e ≡ WriteFault) out out' → HostKeeps host host' → (host.told → host'.moments ≡ moments_after host.moments) → Ran (Some (reduce_size location limits)) reduced err err e []
+      → FolderAnswers (e ≡ FolderFault) folder folder' → SinkAnswers (e ≡ WriteFault) out out' → HostKeeps host host' → (host.told → host'.moments ≡ moments_after host.moments) → Ran (Some (reduce_size location limits)) reduced err (sink_point err) e []
   ran_reduce location limits e ends own lawful answers outs hosts clock = record {
     met = report_met e (IsReported location limits host folder folder') folder folder' out out' ends;
     ends = (reduces_so location limits reduced e ends).ends;
@@ -311,24 +312,24 @@ module _ (means : Meanings) (calls : ℕ) (folder folder' : FolderView) (host : 
   abbrev followed : Course
   followed = course means calls calls folder folder' host host input input' out out
 
-  pub ran_tracker : (e : Ended) → Follows input input' folder folder' err err' e → FolderKeeps folder folder' → SourceAnswers (e ≡ ReadFault) input input' → SinkKeeps err err' → Ran (Some tracker) followed err err' e []
+  pub ran_tracker : (e : Ended) → Follows input input' folder folder' err err' e → FolderKeeps folder folder' → SourceAnswers (e ≡ ReadFault) input input' → SinkKeeps err err' → Ran (Some tracker) followed err (sink_point err') e []
   ran_tracker e follows keeps inputs errs = record {
     met = of_nothing;
     ends = (follows_ends followed err err' e (λ told. refl) inputs.faults.failed follows).ends;
     puts = (follows_ends followed err err' e (λ told. refl) inputs.faults.failed follows).puts;
     withholds = (follows_ends followed err err' e (λ told. refl) inputs.faults.failed follows).withholds;
     says = λ none. refl;
-    tells = follows_tells followed err err' e follows;
+    tells = follows_tells followed err (sink_point err') e (follows_at followed err err' e follows);
     counts = λ none. refl;
     clock = λ none told. refl;
     moves = λ told. let m = follows.moves told in record { went = m.moves.went; idle = λ none. absurd (none tt); own = asked means.answer input folder folder' m };
-    did = follows;
+    did = follows_at followed err err' e follows;
     frame = record {
       folder = keeps;
       host = host_still host;
       input = inputs;
       out = out_still out e (no_write follows.tracked follows.ends);
-      err = errs;
+      err = record { told = λ t. t; later = errs.later };
     };
   }
     where
@@ -394,6 +395,6 @@ module _ {L F H S : Type 0} (Unread : Type 0) (lib lib' : L) (disk disk' : F) (m
 
 -- ---- in other words
 
-pub ran_as : (o o' : Option Command) (w : Course) (err err' : SinkView) (e e' : Ended) (said said' : List ℕ) → o ≡ o' → e ≡ e' → said ≡ said' → Ran o w err err' e said → Ran o' w err err' e' said'
-ran_as o o' w err err' e e' said said' p q r h =
-    subst (λ (x : List ℕ). Ran o' w err err' e' x) r (subst (λ (k : Ended). Ran o' w err err' k said) q (subst (λ (g : Option Command). Ran g w err err' e said) p h))
+pub ran_as : (o o' : Option Command) (w : Course) (err : SinkView) (point : SinkPoint) (e e' : Ended) (said said' : List ℕ) → o ≡ o' → e ≡ e' → said ≡ said' → Ran o w err point e said → Ran o' w err point e' said'
+ran_as o o' w err point e e' said said' p q r h =
+    subst (λ (x : List ℕ). Ran o' w err point e' x) r (subst (λ (k : Ended). Ran o' w err point k said) q (subst (λ (g : Option Command). Ran g w err point e said) p h))

@@ -48,7 +48,7 @@ module _ (Reported : ℕ → ℕ → Type 0) (folder folder' : FolderView) (out 
   ends_printed e count bytes r (inr lost) = subst (λ (e' : Ended). EndsReducing e' Reported folder folder' out out') (sym lost.0) lost.1
 
 -- what was met
-pub report_met : (e : Ended) (Reported : ℕ → ℕ → Type 0) (folder folder' : FolderView) (out out' : SinkView) → EndsReducing e Reported folder folder' out out' → Met
+abbrev pub report_met : (e : Ended) (Reported : ℕ → ℕ → Type 0) (folder folder' : FolderView) (out out' : SinkView) → EndsReducing e Reported folder folder' out out' → Met
 report_met Done Reported folder folder' out out' h = of_report h.0 h.1
 report_met WriteFault Reported folder folder' out out' h = of_report h.0 h.1
 report_met FolderFault Reported folder folder' out out' h = of_nothing

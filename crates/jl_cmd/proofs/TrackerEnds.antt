@@ -178,13 +178,6 @@ tracks_says source rest a b tracked.ReadFault told t = plays_says a _ (point a) 
 tracks_says source rest a b (tracked.TooMuch line) told t = plays_says a _ (point a) (point b) told t.plays
 tracks_says source rest a b tracked.NoMemory told t = elim t.stops [ inl h ↦ stops_says a _ (point a) (point b) told h | inr h ↦ stops_says a _ (point a) (point b) told h.1 ]
 
--- the texts of the tracker stand behind the others
-pub follows_tells : (w : Course) (err err' : SinkView) (e : Ended) → Follows w.input w.input' w.folder w.folder' err err' e → Tells (Some tracker) err err'
-follows_tells w err err' e f = record {
-  quiet = λ none. absurd (none tt);
-  behind = λ clear. (tracks_says w.input w.input' (stage w.folder err) (stage w.folder' err') f.tracked clear.0 f.tracks).1 clear.1;
-}
-
 -- ---- at want of memory for the words
 
 pub follows_nothing : (folder : FolderView) (input : SourceView) (err : SinkView) → Follows input input folder folder err err NoMemory
@@ -209,12 +202,23 @@ tracks_as source rest a folder err mid (tracked.TooMuch line) t = record {
 }
 tracks_as source rest a folder err mid tracked.NoMemory t = record { lines = t.lines; readings = t.readings; open_line = t.open_line; read = t.read; seen = t.seen; stops = t.stops }
 
-pub runs_tracker : (w : Course) (err mid err' : SinkView) (e : Ended) (lines : List ℕ) (n : ℕ) → n ≡ status_of e → SinkKeeps err mid → SinkKeeps mid err' → (IsClear mid err' → err'.written ≡ mid.written ++ (lines ++ last_text e)) → lines ≡ [] → Follows w.input w.input' w.folder w.folder' err mid e → RunsTracker w err err' n
-runs_tracker w err mid err' e lines n is early late text warned follows = record {
+-- and so is how the run went
+pub follows_at : (w : Course) (err mid : SinkView) (e : Ended) → Follows w.input w.input' w.folder w.folder' err mid e → Follows w.input w.input' w.folder w.folder' err (sink_at err (sink_point mid)) e
+follows_at w err mid e f = record { tracked = f.tracked; tracks = tracks_as w.input w.input' (stage w.folder err) w.folder' err mid f.tracked f.tracks; moves = f.moves; ends = f.ends }
+
+-- the texts of the tracker stand behind the others
+pub follows_tells : (w : Course) (err : SinkView) (point : SinkPoint) (e : Ended) → Follows w.input w.input' w.folder w.folder' err (sink_at err point) e → Tells (Some tracker) err point
+follows_tells w err point e f = record {
+  quiet = λ none. absurd (none tt);
+  behind = λ clear. (tracks_says w.input w.input' (stage w.folder err) (stage w.folder' (sink_at err point)) f.tracked clear.0 f.tracks).1 clear.1;
+}
+
+pub runs_tracker : (w : Course) (err : SinkView) (point : SinkPoint) (err' : SinkView) (e : Ended) (lines : List ℕ) (n : ℕ) → n ≡ status_of e → point.faults ≤ err'.faults → (IsClear (sink_at err point) err' → err'.written ≡ point.written ++ (lines ++ last_text e)) → lines ≡ [] → Follows w.input w.input' w.folder w.folder' err (sink_at err point) e → RunsTracker w err err' n
+runs_tracker w err point err' e lines n is later text warned follows = record {
   ended = e;
-  point = sink_point mid;
-  follows = record { tracked = follows.tracked; tracks = tracks_as w.input w.input' (stage w.folder err) w.folder' err mid follows.tracked follows.tracks; moves = follows.moves; ends = follows.ends };
-  later = late.later;
+  point = point;
+  follows = follows;
+  later = later;
   status = is;
-  text = λ clear. text (early.told clear.0, clear.1) ∙ ap (λ (t : List ℕ). mid.written ++ (t ++ last_text e)) warned;
+  text = λ clear. text clear ∙ ap (λ (t : List ℕ). point.written ++ (t ++ last_text e)) warned;
 }

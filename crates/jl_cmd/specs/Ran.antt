@@ -5,6 +5,7 @@ use Rattle.jl_text.specs.Paths.{PathView}
 use Rattle.jl_value.specs.declared.key.Key.{Key}
 use Rattle.jl_quota.specs.declared.limits.Limits.{Limits}
 use Rattle.jl_streams.specs.Views.{SinkView, SinkKeeps}
+use Rattle.jl_tracker.specs.Stages.{SinkPoint}
 use Rattle.jl_cmd.specs.declared.ended.Ended.{Ended}
 use Rattle.jl_cmd.specs.declared.ended.Ended.TheVariants.{ReadFault, WriteFault}
 use Rattle.jl_cmd.specs.Caches.{IsIdle, RunsLawfully}
@@ -18,7 +19,7 @@ use Rattle.jl_cmd.specs.Needs.{needs_of, AreReading, AreCalling, AreBuffered, Us
 use Rattle.jl_cmd.specs.Premise.{Stated, Premise}
 use Rattle.jl_cmd.specs.Promises.{IsWhole, IsSilent, IsStatus, IsComplete, Answers, AnswersFront, IsValid, IsFaultless, CountsCalls, ReadsClock, text_of_status}
 use Rattle.jl_cmd.specs.Puts.{GivenPuts, IsUnprinted}
-use Rattle.jl_cmd.specs.Reporting.{WroteBoth, WroteLast}
+use Rattle.jl_cmd.specs.Reporting.{sink_at, WroteBoth, WroteLast}
 use Rattle.jl_cmd.specs.Saying.{Tells, SaidBy, StatusAt}
 use Rattle.jl_cmd.specs.Statuses as status
 use Rattle.jl_cmd.specs.Uncalled.{IsUncalled}
@@ -36,8 +37,9 @@ pub record LeavesAlone {L F H S : Type 0} (given : Option Command) (Unread : Typ
   pub input : (AreReading given → ⊥) → source' ≡ source
   pub unread : Unread → AreCalling given → (lib' ≡ lib) × (machine' ≡ machine)
 
--- How a run of what words give ended, with the lines of its warnings still to be written. All of it rests on one datum, what the run met.
-pub record Ran (given : Option Command) (w : Course) (err err' : SinkView) (e : Ended) (said : List ℕ) : Type 0 where
+-- How a run of what words give ended, where the error stream stood by then, and with the lines of its warnings still to be written. All of it rests
+-- on one datum, what the run met.
+pub record Ran (given : Option Command) (w : Course) (err : SinkView) (point : SinkPoint) (e : Ended) (said : List ℕ) : Type 0 where
   pub met : Met
   -- Why it ended so.
   pub ends : RunEnds given w e
@@ -46,28 +48,28 @@ pub record Ran (given : Option Command) (w : Course) (err err' : SinkView) (e : 
   pub withholds : AreBuffered given → IsUnprinted e → WritesNothing w.out w.out'
   -- None but a call has lines of warnings; and a command that has no texts of its own leaves the error stream alone.
   pub says : (AreCalling given → ⊥) → said ≡ []
-  pub tells : Tells given err err'
+  pub tells : Tells given err point
   -- Who calls nothing leaves the library's count, and who has no use for the clock its moments.
   pub counts : (AreCalling given → ⊥) → w.calls' ≡ w.calls
   pub clock : (UseClock given → ⊥) → w.host.told → w.host'.moments ≡ w.host.moments
   -- Whatever others do, each of its own moves is of its command's kinds, and lawful wherever all moves before it since its beginning were.
   pub moves : w.folder.told → RunsLawfully given w
   -- What the command did, by its own record.
-  pub did : GivenDid given w met err err' e said
+  pub did : GivenDid given w met err point e said
   -- What stays, and which counts of faults rose.
-  pub frame : Keeps (e ≡ ReadFault) (e ≡ WriteFault) w err err'
+  pub frame : Keeps (e ≡ ReadFault) (e ≡ WriteFault) w err (sink_at err point)
 
 -- A run that answered this status: some ending has it, before which the run went so; and behind all that was on the error stream by then stand the lines of
 -- warnings and the ending's last text, each of them whole or a first part of it where a fault rose in its own writing.
 pub record RanTo (given : Option Command) (w : Course) (err err' : SinkView) (n : ℕ) : Type 0 where
   pub ended : Ended
   pub said : List ℕ
-  pub before : SinkView
-  pub ran : Ran given w err before ended said
+  pub point : SinkPoint
+  pub ran : Ran given w err point ended said
   pub status : n ≡ status_of ended
-  pub text : IsClear before err' → err'.written ≡ before.written ++ (said ++ last_text ended)
-  pub each : before.told → WroteBoth said (last_text ended) before err'
-  pub keeps : SinkKeeps before err'
+  pub text : IsClear (sink_at err point) err' → err'.written ≡ point.written ++ (said ++ last_text ended)
+  pub each : err.told → WroteBoth said (last_text ended) (sink_at err point) err'
+  pub keeps : SinkKeeps (sink_at err point) err'
 
 -- what a run of what words give promises of its exit status; all of it rests on one datum, what the run met
 pub record Runs (given : Option Command) (w : Course) (err err' : SinkView) (n : ℕ) : Type 0 where

@@ -1,6 +1,7 @@
 // The top call.
 ghost use Rattle.std.specs.Prelude.{◌≡◌, ◌⊎◌, ◌++◌};
 ghost use Rattle.jl_streams.specs.Views.{SinkKeeps};
+ghost use Rattle.jl_tracker.specs.Stages.{sink_point};
 ghost use Rattle.jl_cmd.specs.Commands.{command_of, given_by};
 ghost use Rattle.jl_cmd.specs.Course.{meanings, course, IsClear};
 ghost use Rattle.jl_cmd.specs.declared.ended.Ended.TheVariants.{NoModule, FolderFault};
@@ -35,8 +36,9 @@ fn given<L: Library, F: Folder, S: Source, O: Sink, E: Sink, H: Host>(
     requires token { (H.view host.old).token ≡ (F.view folder.old).token }
     requires file { GivenHasModule (command_of settings.now) }
     ensures ran { Ran (command_of settings.now) (course (meanings L.code L.line L.fault L.answer) (L.calls lib.old) (L.calls lib.new) (F.view folder.old) (F.view folder.new)
-        (H.view host.old) (H.view host.new) (S.view input.old) (S.view input.new) (O.view out.old) (O.view out.new)) (E.view err.old) (E.view err.new)
+        (H.view host.old) (H.view host.new) (S.view input.old) (S.view input.new) (O.view out.old) (O.view out.new)) (E.view err.old) (sink_point (E.view err.new))
         result.ended result.lines }
+    ensures err { SinkKeeps (E.view err.old) (E.view err.new) }
     // What it has no use for it leaves alone.
     ensures unused { LeavesAlone (command_of settings.now) ((result.ended ≡ NoModule) ⊎ (result.ended ≡ FolderFault))
         lib.old lib.new folder.old folder.new host.old host.new input.old input.new }
@@ -92,8 +94,9 @@ fn command<L: Library, F: Folder, S: Source, O: Sink, E: Sink, H: Host>(
 ) -> Warned
     requires token { (H.view host.old).token ≡ (F.view folder.old).token }
     ensures ran { Ran (given_by words.now (H.view host.old).processors) (course (meanings L.code L.line L.fault L.answer) (L.calls lib.old) (L.calls lib.new) (F.view folder.old) (F.view folder.new)
-        (H.view host.old) (H.view host.new) (S.view input.old) (S.view input.new) (O.view out.old) (O.view out.new)) (E.view err.old) (E.view err.new)
+        (H.view host.old) (H.view host.new) (S.view input.old) (S.view input.new) (O.view out.old) (O.view out.new)) (E.view err.old) (sink_point (E.view err.new))
         result.ended result.lines }
+    ensures err { SinkKeeps (E.view err.old) (E.view err.new) }
     ensures unused { LeavesAlone (given_by words.now (H.view host.old).processors) ((result.ended ≡ NoModule) ⊎ (result.ended ≡ FolderFault))
         lib.old lib.new folder.old folder.new host.old host.new input.old input.new }
 {

@@ -1,4 +1,5 @@
 use Rattle.std.proofs.Common.{refl}
+use Rattle.jl_tracker.specs.Stages.{sink_point}
 use Rattle.jl_cmd.proofs.EndingLemmas.{module_or_folder}
 use Rattle.jl_cmd.proofs.RanLemmas.{alone_as}
 use Rattle.jl_cmd.proofs.top.run_plain.Goals as goal
@@ -7,12 +8,12 @@ pub returns-clause-ran : goal.returns-clause-ran
 returns-clause-ran g c = record {
   ended = c.command-warned.result.ended;
   said = c.command-warned.result.lines;
-  before = g.E.Sink.view c.command-warned.new.err;
+  point = sink_point (g.E.Sink.view c.command-warned.new.err);
   ran = c.command-warned.ensures.ran;
   status = c.status.ensures;
-  text = c.report.ensures.text;
-  each = c.report.ensures.each;
-  keeps = c.report.ensures.frame;
+  text = λ clear. c.report.ensures.text (c.command-warned.ensures.err.told clear.0, clear.1);
+  each = λ told. let wrote = c.report.ensures.each (c.command-warned.ensures.err.told told) in record { between = wrote.between; wrote_first = wrote.wrote_first; wrote_second = wrote.wrote_second };
+  keeps = record { told = λ told. c.report.ensures.frame.told (c.command-warned.ensures.err.told told); later = c.report.ensures.frame.later };
 }
 
 pub returns-clause-unused : goal.returns-clause-unused
