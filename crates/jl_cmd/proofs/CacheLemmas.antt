@@ -1,5 +1,5 @@
 -- What a run rests on and owes, over its cache folder.
-use Rattle.std.proofs.Common.{◌≡◌, ◌∙◌, inl, ℕ, List, [], ◌∷◌, ◌++◌, append_assoc, arith, suc, Bool, true, false, cond, Option, Some, None, IsSome, IsTrue, refl, sym, ap, subst}
+use Rattle.std.proofs.Common.{◌≡◌, ◌∙◌, ℕ, List, [], ◌∷◌, ◌++◌, append_assoc, arith, suc, Bool, true, false, cond, Option, Some, None, IsSome, IsTrue, refl, sym, ap, subst}
 use Rattle.std.specs.Prelude.{◌+◌, ◌<◌, length, take}
 use Rattle.std.proofs.Math.ListN.{get_or}
 use Rattle.std.proofs.Math.Seq.{take-suc}
@@ -26,7 +26,7 @@ use Rattle.jl_words.proofs.Settled.{all_named}
 use Rattle.jl_words.proofs.Targeted.{all_targets}
 use Rattle.jl_words.specs.declared.types.Settings.{Settings}
 use Rattle.jl_words.specs.declared.types.Settings.TheVariants.{Call, Hash, Parallel, Session, Clear, ReduceSize, Worker, Tracker, Gen}
-use Rattle.jl_cmd.specs.Commands.{Command, call, hash, clear, reduce_size, tracker, command_of}
+use Rattle.jl_cmd.specs.Commands.{call, command_of}
 use Rattle.jl_cmd.specs.Needs.{needs_of, GivenHasModule}
 use Rattle.jl_cmd.specs.Premise.{Premise}
 use Rattle.jl_cmd.specs.Caches.{CallsIn}

@@ -1,5 +1,5 @@
 -- What a call of a function did, by its parts.
-use Rattle.std.proofs.Common.{◌≡◌, ◌∙◌, ◌⊎◌, inl, inr, ℕ, List, [], Some, refl, sym, subst}
+use Rattle.std.proofs.Common.{◌≡◌, ◌⊎◌, inl, ℕ, List, [], refl, subst}
 use Rattle.jl_text.specs.Paths.{PathView}
 use Rattle.jl_text.specs.Counts.{Rose}
 use Rattle.jl_folder.specs.declared.moves.Move.{Move}
@@ -28,7 +28,7 @@ use Rattle.jl_cmd.specs.Calling.{CallWarns, LeavesCalled, ComputedAt, EndedAt}
 use Rattle.jl_cmd.specs.Coming.{HasComputed, ComesCalled}
 use Rattle.jl_cmd.specs.of.Call.{CallEnds, CallEnded}
 use Rattle.jl_cmd.specs.Endings.{Finishes}
-use Rattle.jl_cmd.specs.Met.{Met, of_nothing, of_module}
+use Rattle.jl_cmd.specs.Met.{of_nothing, of_module}
 use Rattle.jl_cmd.specs.Computing.{Computes, Counts, Calls, IsRefusal, WritesWarned}
 use Rattle.jl_cmd.specs.Texts.{warning_lines}
 use Rattle.jl_cmd.proofs.CallingLemmas.{Parts, after_reading, call_lines, call_leaves, written_at}

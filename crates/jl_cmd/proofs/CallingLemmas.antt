@@ -1,5 +1,5 @@
 -- What a call of a function does over the cache folder.
-use Rattle.std.proofs.Common.{◌≡◌, ◌∙◌, ◌⊎◌, inl, inr, ⊎_elim, ℕ, ◌≤◌, List, [], ◌∷◌, ◌++◌, Option, Some, None, refl, sym, ap, subst, arith}
+use Rattle.std.proofs.Common.{◌≡◌, ◌∙◌, ◌⊎◌, inl, inr, ⊎_elim, ℕ, List, [], ◌∷◌, ◌++◌, Some, refl, sym, ap, subst, arith}
 use Rattle.std.specs.Prelude.{⊤}
 use Rattle.jl_text.specs.Paths.{PathView}
 use Rattle.jl_text.specs.Counts.{Rose}
@@ -7,7 +7,7 @@ use Rattle.jl_folder.specs.State.{State}
 use Rattle.jl_folder.specs.declared.moves.Move.{Move}
 use Rattle.jl_folder.specs.Views.{FolderView, FolderKeeps, state, moved}
 use Rattle.jl_folder.specs.Calls.{Waits}
-use Rattle.jl_streams.specs.Views.{SinkView, HostView}
+use Rattle.jl_streams.specs.Views.{SinkView}
 use Rattle.jl_value.specs.Library.{Answer}
 use Rattle.jl_rely.specs.Steps.{IsLone}
 use Rattle.jl_rely.specs.Claims.{GoesOn}
@@ -37,7 +37,7 @@ use Rattle.jl_cmd.specs.declared.computed.Computed.{Computed}
 use Rattle.jl_cmd.specs.declared.computed.Computed.TheVariants as computed
 use Rattle.jl_cmd.specs.declared.ended.Ended.{Ended}
 use Rattle.jl_cmd.specs.declared.ended.Ended.TheVariants.{Done, Failed, Usage, Refused, ReadFault, WriteFault, NoMemory, NoModule, FolderFault}
-use Rattle.jl_cmd.specs.Course.{Meanings, Stretch, stretch}
+use Rattle.jl_cmd.specs.Course.{Stretch, stretch}
 use Rattle.jl_cmd.specs.Caches.{CallsLawfully}
 use Rattle.jl_cmd.specs.Endings.{ReadFrom, status_of}
 use Rattle.jl_cmd.specs.Computing.{IsPrinted, IsFailed, IsRefused, WritesWarned}

@@ -1,5 +1,5 @@
 -- How a call of a function came to its answer, from its parts to the whole run.
-use Rattle.std.proofs.Common.{◌≡◌, ◌∙◌, ◌⊎◌, inl, inr, ℕ, ◌≤◌, List, [], ◌++◌, Option, Some, None, sym, ap, subst, append-nil}
+use Rattle.std.proofs.Common.{◌≡◌, ◌∙◌, ◌⊎◌, inl, inr, ℕ, List, [], ◌++◌, Some, sym, ap, subst, append-nil}
 use Rattle.std.specs.Bool.{⊤}
 use Rattle.std.proofs.lemmas.List.{append_cancel_left}
 use Rattle.jl_text.specs.Paths.{PathView}
@@ -19,7 +19,6 @@ use Rattle.jl_store.specs.declared.cached.Cached.{Cached}
 use Rattle.jl_store.specs.Asked.{Asked}
 use Rattle.jl_store.specs.Calling.{IsCalling, IsWritingCall, ClearsOnlyAnothers, PutsCall, PutsFiles, IsBeforeOutput}
 use Rattle.jl_store.specs.Keeping.{texts}
-use Rattle.jl_store.specs.Checking.{IsOfCode, code_path}
 use Rattle.jl_store.specs.Next.{entry_asked}
 use Rattle.jl_store.specs.Done.{HasDoneBut, DoesOrWarns}
 use Rattle.jl_protocol.specs.Proper.{IsProper}

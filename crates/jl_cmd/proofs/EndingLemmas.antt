@@ -4,7 +4,6 @@ use Rattle.std.specs.Prelude.{⊤, T}
 use Rattle.jl_text.specs.Paths.{PathView}
 use Rattle.jl_text.specs.Counts.{Rose}
 use Rattle.jl_protocol.proofs.Before.{some_not_none}
-use Rattle.jl_folder.specs.Views.{FolderView}
 use Rattle.jl_streams.specs.Streams.{WritesAll, WritesPrefix}
 use Rattle.jl_streams.specs.Views.{SinkView}
 use Rattle.jl_streams.specs.declared.sink.WroteAll.{WroteAll}

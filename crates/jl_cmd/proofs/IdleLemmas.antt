@@ -1,5 +1,5 @@
 -- What a run that stops before its first move leaves.
-use Rattle.std.proofs.Common.{◌≡◌, ◌≢◌, ℕ, List, [], append-nil, ◌⊎◌, refl, sym, ap, subst, inl, inr, arith}
+use Rattle.std.proofs.Common.{◌≡◌, ℕ, [], append-nil, ◌⊎◌, refl, sym, ap, subst, inl, inr, arith}
 use Rattle.jl_folder.specs.declared.moves.Move.{Move}
 use Rattle.jl_folder.specs.Views.{FolderView, moved}
 use Rattle.jl_folder.specs.Calls.{Waits}

@@ -1,9 +1,9 @@
 -- What each command's own promises make of a run.
-use Rattle.std.proofs.Common.{◌≡◌, ◌∙◌, inl, inr, ℕ, ◌≤◌, List, [], ◌++◌, Option, Some, None, refl, sym, ap, subst, arith, append-nil}
+use Rattle.std.proofs.Common.{◌≡◌, ◌∙◌, inl, inr, ℕ, List, [], Option, Some, None, refl, sym, ap, subst, arith, append-nil}
 use Rattle.std.specs.Prelude.{⊤}
-use Rattle.jl_text.specs.Counts.{Faults, Rose}
+use Rattle.jl_text.specs.Counts.{Faults}
 use Rattle.jl_text.specs.Paths.{PathView}
-use Rattle.jl_folder.specs.Views.{FolderView, FolderAnswers, FolderKeeps, state, moved}
+use Rattle.jl_folder.specs.Views.{FolderView, FolderAnswers, FolderKeeps, moved}
 use Rattle.jl_streams.specs.Moments.{moments_after}
 use Rattle.jl_streams.specs.Views.{SourceView, SinkView, HostView, SourceAnswers, SinkAnswers, SinkKeeps, HostKeeps}
 use Rattle.jl_value.specs.declared.key.Key.{Key}
@@ -27,11 +27,10 @@ use Rattle.jl_cmd.specs.declared.ended.Ended.TheVariants.{Done, Failed, Usage, R
 use Rattle.jl_cmd.specs.Caches.{CallsLawfully, IsOfCall, CallsIn, RunsLawfully}
 use Rattle.jl_cmd.specs.Commands.{Command, call, hash, clear, reduce_size, tracker}
 use Rattle.jl_cmd.specs.Computing.{Computes, Writes}
-use Rattle.jl_cmd.specs.Course.{Meanings, Course, course, stretch_of, IsClear, Keeps}
+use Rattle.jl_cmd.specs.Course.{Meanings, Course, course, stretch_of, Keeps}
 use Rattle.jl_cmd.specs.Did.{GivenDid}
-use Rattle.jl_cmd.specs.Endings.{Finishes, WritesNothing, status_of}
+use Rattle.jl_cmd.specs.Endings.{Finishes, status_of}
 use Rattle.jl_cmd.specs.Met.{Met, of_nothing}
-use Rattle.jl_cmd.specs.Needs.{AreTelling}
 use Rattle.jl_cmd.specs.Output.{hash_output}
 use Rattle.jl_cmd.specs.Puts.{GivenPuts}
 use Rattle.jl_cmd.specs.Ran.{Ran, LeavesAlone}

@@ -19,7 +19,6 @@ use Rattle.jl_cmd.specs.declared.ended.Ended.TheVariants.{Done, Failed, Usage, R
 use Rattle.jl_cmd.specs.Caches.{CallsLawfully, RunsLawfully}
 use Rattle.jl_cmd.specs.Commands.{reduce_size}
 use Rattle.jl_cmd.specs.Course.{Course}
-use Rattle.jl_cmd.specs.Endings.{WritesNothing}
 use Rattle.jl_cmd.specs.Met.{Met, of_nothing, of_report}
 use Rattle.jl_cmd.specs.of.Reduce.{report_of, IsMomentOf, IsReported, EndsReducing}
 use Rattle.jl_cmd.specs.Computing.{WritesWarned}

@@ -1,5 +1,5 @@
 -- What was written of the texts of the error stream.
-use Rattle.std.proofs.Common.{◌≡◌, ◌⊎◌, inl, inr, ℕ, ◌≤◌, List, sym, subst, refl, ◌∙◌, arith}
+use Rattle.std.proofs.Common.{◌≡◌, inl, inr, ℕ, ◌≤◌, List, subst, refl, arith}
 use Rattle.jl_streams.specs.declared.sink.WroteAll.{WroteAll}
 use Rattle.jl_streams.specs.declared.sink.WroteAll.TheVariants as wrote_all
 use Rattle.jl_streams.specs.Streams.{WritesAll}

@@ -1,26 +1,26 @@
 -- What a run promises of its status, by how it ended and by the texts that were written then.
-use Rattle.std.proofs.Common.{◌≡◌, ◌≤◌, ◌∙◌, ◌⊎◌, arith, ℕ, List, [], ◌++◌, Bool, true, false, Option, Some, None, inl, inr, refl, sym, ap, subst}
+use Rattle.std.proofs.Common.{◌≡◌, ◌≤◌, ◌∙◌, ◌⊎◌, arith, ℕ, List, [], ◌++◌, Bool, true, false, Option, Some, refl, sym, ap, subst}
 use Rattle.std.specs.Prelude.{T}
 use Rattle.std.proofs.lemmas.List.{append_assoc}
 use Rattle.jl_text.specs.Counts.{Faults, Rose}
 use Rattle.jl_text.specs.Paths.{PathView}
-use Rattle.jl_streams.specs.Views.{SinkView, SourceAnswers, SinkAnswers, SinkKeeps}
+use Rattle.jl_streams.specs.Views.{SinkView}
 use Rattle.jl_tracker.specs.Stages.{SinkPoint, sink_point}
 use Rattle.jl_cmd.specs.declared.ended.Ended.{Ended}
 use Rattle.jl_cmd.specs.declared.ended.Ended.TheVariants.{Usage, ReadFault, WriteFault, NoModule, FolderFault}
 use Rattle.jl_cmd.specs.Commands.{Command, call, clear as clears, reduce_size, tracker}
-use Rattle.jl_cmd.specs.Course.{Course, stretch_of, IsClear, Keeps}
+use Rattle.jl_cmd.specs.Course.{Course, stretch_of, IsClear}
 use Rattle.jl_cmd.specs.Did.{GivenDid}
 use Rattle.jl_cmd.specs.Endings.{RunEnds, LacksTold, status_of, last_text}
 use Rattle.jl_cmd.specs.Met.{Met, bytes_in}
-use Rattle.jl_cmd.specs.Needs.{needs_given, needs_of, AreCalling, AreTelling}
+use Rattle.jl_cmd.specs.Needs.{needs_given, AreCalling, AreTelling}
 use Rattle.jl_cmd.specs.Promises.{IsStatus}
 use Rattle.jl_cmd.specs.Puts.{GivenPuts}
 use Rattle.jl_cmd.specs.Ran.{Ran, RanTo, Runs}
 use Rattle.jl_cmd.specs.Reporting.{sink_at}
 use Rattle.jl_cmd.specs.Saying.{Tells, SaidBy}
 use Rattle.jl_cmd.specs.Uncalled.{IsUncalled}
-use Rattle.jl_cmd.specs.of.Call.{CallDid, CallSays}
+use Rattle.jl_cmd.specs.of.Call.{CallSays}
 use Rattle.jl_cmd.proofs.CallingLemmas.{leaves_at}
 use Rattle.jl_cmd.proofs.ComingLemmas.{comes_at}
 use Rattle.jl_cmd.proofs.EndingLemmas.{SaysLast, all_buffered, answers_at, stated_at, front_at, silent_at, nothing_stated, is_status, completes, usage_there, counts_at, text_at, usage_is, read_fault_is, write_fault_is, no_module_is, folder_fault_is}

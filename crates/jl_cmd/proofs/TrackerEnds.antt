@@ -1,12 +1,12 @@
 -- How a run of the tracker ends.
-use Rattle.std.proofs.Common.{◌≡◌, ◌∙◌, ◌⊎◌, inl, inr, ℕ, ◌+◌, ◌<◌, ◌≤◌, List, [], ◌∷◌, ◌++◌, length, take, Bool, true, false, ◌||◌, cond, if◌then◌else◌, Option, None, Some, refl, sym, ap, subst, arith, append-nil, length-append, true≢false}
+use Rattle.std.proofs.Common.{◌≡◌, ◌∙◌, ◌⊎◌, inl, inr, ℕ, ◌+◌, ◌<◌, ◌≤◌, List, [], ◌∷◌, ◌++◌, length, take, Bool, true, false, ◌||◌, cond, if◌then◌else◌, Option, Some, refl, sym, ap, subst, arith, append-nil, length-append, true≢false}
 use Rattle.std.proofs.lemmas.List.{append_assoc}
 use Rattle.std.proofs.lemmas.Bool.{lt-ltb, le-ltb}
 use Rattle.std.proofs.Math.Seq.{take-append_seam}
 use Rattle.jl_text.specs.Counts.{Rose}
 use Rattle.jl_text.specs.declared.limits.TheConstants.{MOST_INPUT_BYTES}
 use Rattle.jl_folder.specs.Views.{FolderView}
-use Rattle.jl_streams.specs.Views.{SourceView, SinkView, SinkKeeps}
+use Rattle.jl_streams.specs.Views.{SourceView, SinkView}
 use Rattle.jl_lines.specs.Lines.{is_newline, has_newline, lines_of, put_before}
 use Rattle.jl_tracker.specs.declared.following.Tracked.{Tracked}
 use Rattle.jl_tracker.specs.declared.following.Tracked.TheVariants as tracked

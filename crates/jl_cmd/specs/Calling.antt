@@ -1,5 +1,5 @@
 -- What a call of a function does over the cache folder: of what it warns, and what it leaves where no other moved.
-use Rattle.std.specs.Prelude.{◌≡◌, ◌⊎◌, ℕ, List, [], ◌++◌, Option, None, Some, Ok, ⊤}
+use Rattle.std.specs.Prelude.{◌≡◌, ◌⊎◌, ℕ, List, [], ◌++◌, None, Some, Ok, ⊤}
 use Rattle.jl_text.specs.Paths.{PathView}
 use Rattle.jl_folder.specs.Views.{FolderView, state}
 use Rattle.jl_entry.specs.Entry.{Members}
@@ -9,7 +9,7 @@ use Rattle.jl_store.specs.declared.cached.Cached.{Cached}
 use Rattle.jl_store.specs.declared.cached.Cached.TheVariants as cached
 use Rattle.jl_store.specs.Cached.{IsAnswer, CountsCall}
 use Rattle.jl_store.specs.Asked.{Asked, asked}
-use Rattle.jl_store.specs.Next.{LeavesNext, AreTimed, LeftAfter}
+use Rattle.jl_store.specs.Next.{LeavesNext, AreTimed}
 use Rattle.jl_store.specs.Warned.{AreCaused}
 use Rattle.jl_cmd.specs.declared.computed.Computed.{Computed}
 use Rattle.jl_cmd.specs.declared.computed.Computed.TheVariants as computed

@@ -1,7 +1,7 @@
 -- How a call of a function came to its answer, what it put out then, and what it did or else warned of, whatever others do.
-use Rattle.std.specs.Prelude.{◌≡◌, ℕ, List, [], ◌++◌, Option, Some, None, ⊤}
+use Rattle.std.specs.Prelude.{◌≡◌, ℕ, List, [], ◌++◌, Some}
 use Rattle.jl_text.specs.Paths.{PathView}
-use Rattle.jl_folder.specs.Views.{FolderView, state, moved}
+use Rattle.jl_folder.specs.Views.{state, moved}
 use Rattle.jl_streams.specs.Views.{SinkView}
 use Rattle.jl_value.specs.Form.{tree_of}
 use Rattle.jl_store.specs.declared.memory.Memory.{Memory}

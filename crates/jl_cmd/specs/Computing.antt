@@ -1,5 +1,5 @@
 -- What a run comes to, and how often it calls a function.
-use Rattle.std.specs.Prelude.{◌≡◌, ◌⊎◌, ℕ, List, [], ◌++◌, Option, Some, None}
+use Rattle.std.specs.Prelude.{◌≡◌, ◌⊎◌, ℕ, [], ◌++◌}
 use Rattle.jl_text.specs.Counts.{Rose}
 use Rattle.jl_streams.specs.Streams.{WritesPrefix}
 use Rattle.jl_streams.specs.Views.{SinkView}

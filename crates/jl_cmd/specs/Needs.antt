@@ -1,5 +1,5 @@
 -- What a command needs: the file of a module, a cache, the input, the functions of a library, the folder and the clock; and how it may end and write.
-use Rattle.std.specs.Prelude.{◌≡◌, Bool, true, false, T, List, Option, Some, None, IsSome, ⊤}
+use Rattle.std.specs.Prelude.{Bool, true, false, T, Option, Some, None, IsSome, ⊤}
 use Rattle.jl_text.specs.Paths.{PathView}
 use Rattle.jl_words.specs.ModuleNames.{module_name_of}
 use Rattle.jl_words.specs.Targets.{IsTarget}

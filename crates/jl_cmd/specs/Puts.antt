@@ -1,8 +1,8 @@
 -- What a run puts out at its end: its whole output, or a front of it, or nothing.
-use Rattle.std.specs.Prelude.{◌≡◌, List, ℕ, ◌++◌, Option, Some, None, T, ⊤}
+use Rattle.std.specs.Prelude.{◌≡◌, ◌++◌, Option, Some, None, T, ⊤}
 use Rattle.jl_streams.specs.Streams.{WritesPrefix}
 use Rattle.jl_cmd.specs.declared.ended.Ended.{Ended}
-use Rattle.jl_cmd.specs.declared.ended.Ended.TheVariants.{Done, Failed, Usage, Refused, ReadFault, WriteFault, NoMemory, NoModule, FolderFault}
+use Rattle.jl_cmd.specs.declared.ended.Ended.TheVariants.{Done, Failed, Refused, WriteFault}
 use Rattle.jl_cmd.specs.Commands.{Command}
 use Rattle.jl_cmd.specs.Course.{Course}
 use Rattle.jl_cmd.specs.Endings.{status_of, last_text}

@@ -52,7 +52,7 @@ tells_run given w err err' n runs = record {
   nothing = runs.nothing;
   usage_text = λ two clear.
       let x = runs.text (inl (inl two)) clear in
-      behind_nothing err.written err'.written x.0 (text_of_status n) (subst (λ (g : Option Command). SaidBy g w x.0) (runs.usage_only two) x.1) x.2;
+      behind_nothing err.written err'.written x.0 (text_of_status n) ((subst (λ (g : Option Command). SaidBy g w runs.met x.0) (runs.usage_only two) x.1).silent (λ calling. calling) (λ telling. telling)) x.2;
   text = λ short clear. let x = runs.text short clear in (x.0, x.2);
   out_frame = runs.frame.out;
   err_frame = runs.frame.err;

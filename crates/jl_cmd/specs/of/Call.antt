@@ -1,8 +1,8 @@
 -- What a call of a function did, before its texts are written.
-use Rattle.std.specs.Prelude.{◌≡◌, ◌⊎◌, ℕ, List, [], Some, ⊤}
+use Rattle.std.specs.Prelude.{◌≡◌, ℕ, List, Some}
 use Rattle.jl_text.specs.Paths.{PathView}
 use Rattle.jl_text.specs.Counts.{Rose}
-use Rattle.jl_folder.specs.Views.{FolderView, state, moved}
+use Rattle.jl_folder.specs.Views.{state, moved}
 use Rattle.jl_streams.specs.Views.{SinkView}
 use Rattle.jl_rely.specs.Claims.{GoesOn}
 use Rattle.jl_rely.specs.Steps.{IsLone}
@@ -12,7 +12,7 @@ use Rattle.jl_store.specs.declared.memory.Warning.{Warning}
 use Rattle.jl_store.specs.Trust.{IsTrusted}
 use Rattle.jl_words.specs.ModuleNames.{module_name_of}
 use Rattle.jl_cmd.specs.declared.ended.Ended.{Ended}
-use Rattle.jl_cmd.specs.declared.ended.Ended.TheVariants.{Done, Failed, Usage, Refused, ReadFault, WriteFault, NoMemory, NoModule, FolderFault}
+use Rattle.jl_cmd.specs.declared.ended.Ended.TheVariants.{Usage, ReadFault, NoMemory, NoModule, FolderFault}
 use Rattle.jl_cmd.specs.Calling.{memory_at, AreOfCall, LeavesRead, EndedAt}
 use Rattle.jl_cmd.specs.Caches.{CallsIn, MakesNone}
 use Rattle.jl_cmd.specs.Coming.{CallComes, EndsWith}

@@ -1,5 +1,5 @@
 -- What the command `clear` takes away, and how it ends.
-use Rattle.std.specs.Prelude.{◌≡◌, ℕ, List, [], ◌∷◌, Option, Some, None, ⊤}
+use Rattle.std.specs.Prelude.{ℕ, List, [], ◌∷◌, Option, Some, None, ⊤}
 use Rattle.hex.specs.Hex.{encode_lower}
 use Rattle.jl_text.specs.Counts.{Rose}
 use Rattle.jl_text.specs.Paths.{PathView}

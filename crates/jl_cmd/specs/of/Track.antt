@@ -1,22 +1,16 @@
 -- What a run of the tracker reads, takes away and tells.
-use Rattle.std.specs.Prelude.{◌≡◌, ◌≢◌, ◌≤◌, ◌⊎◌, ℕ, List, [], ◌∷◌, ◌++◌, Option, Some, None, ⊤}
+use Rattle.std.specs.Prelude.{◌≡◌, ◌≢◌, ◌≤◌, ◌⊎◌, ℕ, List, [], ◌∷◌, ◌++◌, ⊤}
 use Rattle.jl_text.specs.Paths.{PathView, path_of}
-use Rattle.jl_folder.specs.declared.moves.Move.{Move}
-use Rattle.jl_folder.specs.declared.moves.Move.TheVariants.{Remove, RemoveDir}
 use Rattle.jl_folder.specs.Views.{FolderView, state, moved}
 use Rattle.jl_streams.specs.Views.{SourceView, SinkView}
-use Rattle.jl_rely.specs.Steps.{OwnMoves}
 use Rattle.jl_entry.specs.Names.{IsOutside}
 use Rattle.jl_protocol.specs.Whole.{Answers}
 use Rattle.jl_protocol.specs.Proper.{LawfulThroughout}
-use Rattle.jl_lines.specs.Lines.{lines_of}
 use Rattle.jl_tracker.specs.declared.line.Kind.{Kind}
 use Rattle.jl_tracker.specs.declared.line.Kind.TheVariants as kind
 use Rattle.jl_tracker.specs.declared.following.Tracked.{Tracked}
 use Rattle.jl_tracker.specs.declared.following.Tracked.TheVariants as tracked
-use Rattle.jl_tracker.specs.TrackerLines.{LineView}
-use Rattle.jl_tracker.specs.Counting.{no_counts}
-use Rattle.jl_tracker.specs.Effects.{Effect, reports_bad, reports_unknown, reports_leaked, removes, AreReadings, effects_from, counts_after, end_effects}
+use Rattle.jl_tracker.specs.Effects.{Effect, reports_bad, reports_unknown, reports_leaked, removes}
 use Rattle.jl_tracker.specs.Stages.{SinkPoint, stage}
 use Rattle.jl_tracker.specs.Taking.{all_effects, MovesAsked}
 use Rattle.jl_tracker.specs.Tracking.{Tracks}

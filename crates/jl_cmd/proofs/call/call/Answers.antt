@@ -1,4 +1,4 @@
-use Rattle.std.proofs.Common.{rules, ◌≡◌, ◌∙◌, ◌⊎◌, ℕ, List, [], Some, inl, refl, sym, ap, subst}
+use Rattle.std.proofs.Common.{rules, ◌≡◌, ◌⊎◌, ℕ, List, [], inl, refl, sym, ap, subst}
 use Rattle.jl_text.specs.Paths.{PathView}
 use Rattle.jl_folder.specs.Views.{FolderView}
 use Rattle.jl_folder.specs.Calls.{Waits}

@@ -1,4 +1,4 @@
-use Rattle.std.proofs.Common.{rules, ◌≡◌, ◌∙◌, ap, sym, refl, map, string_bytes, ℕ, Option, None}
+use Rattle.std.proofs.Common.{rules, ◌≡◌, ◌∙◌, ap, sym, refl, map, string_bytes, ℕ, None}
 use Rattle.std.specs.Option.{option_and_then}
 use Rattle.jl_words.specs.Settings.{settings_of}
 use Rattle.jl_cmd.specs.Commands.{command_of, given_of}

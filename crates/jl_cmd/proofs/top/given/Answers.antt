@@ -1,6 +1,6 @@
-use Rattle.std.proofs.Common.{◌≡◌, ◌∙◌, ℕ, List, [], Option, Some, None, refl, sym, ap}
+use Rattle.std.proofs.Common.{◌≡◌, ◌∙◌, ℕ, List, Some, refl, sym, ap}
 use Rattle.jl_words.specs.declared.types.Settings.{Settings}
-use Rattle.jl_cmd.specs.Commands.{Command, call, hash, clear, reduce_size, tracker, command_of}
+use Rattle.jl_cmd.specs.Commands.{call, hash, command_of}
 use Rattle.jl_cmd.proofs.RanLemmas.{ran_usage, ran_hash, ran_call, ran_clear, ran_reduce, ran_tracker, ran_as, call_alone, clear_alone, reduce_alone, tracker_alone, none_alone, alone_as}
 use Rattle.jl_cmd.proofs.top.given.Goals as goal
 
