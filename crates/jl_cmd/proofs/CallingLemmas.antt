@@ -1,5 +1,5 @@
 -- What a call of a function does over the cache folder.
-use Rattle.std.proofs.Common.{◌≡◌, ◌∙◌, ◌⊎◌, inl, inr, ⊎_elim, ℕ, List, [], ◌∷◌, ◌++◌, Some, refl, sym, ap, subst, arith}
+use Rattle.std.proofs.Common.{◌≡◌, ◌∙◌, ◌⊎◌, inl, inr, ⊎_elim, ℕ, List, [], ◌∷◌, ◌++◌, Some, refl, sym, ap, subst, arith, append-nil}
 use Rattle.std.specs.Prelude.{⊤}
 use Rattle.jl_text.specs.Paths.{PathView}
 use Rattle.jl_text.specs.Counts.{Rose}
@@ -7,7 +7,7 @@ use Rattle.jl_folder.specs.State.{State}
 use Rattle.jl_folder.specs.declared.moves.Move.{Move}
 use Rattle.jl_folder.specs.Views.{FolderView, FolderKeeps, state, moved}
 use Rattle.jl_folder.specs.Calls.{Waits}
-use Rattle.jl_streams.specs.Views.{SinkView}
+use Rattle.jl_streams.specs.Views.{SinkView, HostView}
 use Rattle.jl_value.specs.Library.{Answer}
 use Rattle.jl_rely.specs.Steps.{IsLone}
 use Rattle.jl_rely.specs.Claims.{GoesOn}
@@ -30,6 +30,7 @@ use Rattle.jl_store.specs.Trust.{IsTrusted}
 use Rattle.jl_store.specs.Asked.{Asked, output_asked}
 use Rattle.jl_store.specs.Next.{LeavesNext, AreTimed}
 use Rattle.jl_store.specs.Warned.{UsesCall, IsCaused, AreCaused}
+use Rattle.jl_store.proofs.Lawfully.{lawful_none}
 use Rattle.jl_store.proofs.CodeAlone.{lone_owed}
 use Rattle.jl_store.proofs.Causing.{opened_later, orderly_later}
 use Rattle.jl_words.specs.ModuleNames.{module_name_of}
@@ -37,14 +38,14 @@ use Rattle.jl_cmd.specs.declared.computed.Computed.{Computed}
 use Rattle.jl_cmd.specs.declared.computed.Computed.TheVariants as computed
 use Rattle.jl_cmd.specs.declared.ended.Ended.{Ended}
 use Rattle.jl_cmd.specs.declared.ended.Ended.TheVariants.{Done, Failed, Usage, Refused, ReadFault, WriteFault, NoMemory, NoModule, FolderFault}
-use Rattle.jl_cmd.specs.Course.{Stretch, stretch}
-use Rattle.jl_cmd.specs.Caches.{CallsLawfully}
+use Rattle.jl_cmd.specs.Course.{Meanings, Stretch, stretch}
+use Rattle.jl_cmd.specs.Caches.{CallsLawfully, IsOfCall}
 use Rattle.jl_cmd.specs.Endings.{ReadFrom, status_of}
-use Rattle.jl_cmd.specs.Computing.{IsPrinted, IsFailed, IsRefused, WritesWarned}
+use Rattle.jl_cmd.specs.Computing.{Counts, IsPrinted, IsFailed, IsRefused, WritesWarned}
 use Rattle.jl_cmd.specs.Texts.{warning_lines}
 use Rattle.jl_cmd.specs.Calling.{Asks, asked_by, memory_at, CallWarns, AreOfCall, IsStatusOf, LeavesAsked, LeavesCalled, LeavesRead, ComputedAt, EndedAt}
 use Rattle.jl_cmd.specs.Saying.{StatusAt}
-use Rattle.jl_cmd.specs.of.Call.{CallSays, CallLeaves}
+use Rattle.jl_cmd.specs.of.Call.{ComputesCall, CallSays, CallLeaves}
 
 -- ---- claims on statuses
 
@@ -71,6 +72,22 @@ computed_map (computed.Printed t) P Q f h = f 0 h
 computed_map (computed.Failed t) P Q f h = f 1 h
 computed_map (computed.Refused t) P Q f h = tt
 computed_map computed.NoMemory P Q f h = tt
+
+refused_counts : (c : Computed) (old new : ℕ) → IsRefused c → new ≡ old → Counts c old new
+refused_counts (computed.Printed t) old new is same = absurd is
+refused_counts (computed.Failed t) old new is same = absurd is
+refused_counts (computed.Refused t) old new is same = same
+refused_counts computed.NoMemory old new is same = inl same
+
+-- a call that was refused before the cache was asked
+pub call_refused : (memory : Memory) (bytes name args : List ℕ) (means : Meanings) (calls calls' : ℕ) (folder : FolderView) (host : HostView) (c : Computed) (ws : List Warning) → IsRefused c → calls' ≡ calls → ComputesCall memory bytes name args (stretch means calls calls' folder folder host host) c ws ws
+call_refused memory bytes name args means calls calls' folder host c ws is same = record {
+  lawful = λ told. lawful_none (root_of memory.location) means.answer (IsOfCall (root_of memory.location) memory.«module» name folder.token) folder;
+  calls = refused_counts c calls calls' is same;
+  warns = ([], sym (append-nil ws), inl refl);
+  alone = λ told lone sound rose. refused_at c _ is;
+  comes = refused_at c _ is;
+}
 
 -- an ending with neither a value nor an error
 pub memory_at_end : (e : Ended) (P : ℕ → Type 0) → e ≡ NoMemory → EndedAt e P

@@ -18,9 +18,10 @@ ghost use Rattle.jl_store.specs.Trust.{IsTrusted};
 ghost use Rattle.jl_cmd.specs.Course.{meanings, stretch};
 ghost use Rattle.jl_cmd.specs.Output.{call_output, called as called_of, answers, module_fault_of};
 ghost use Rattle.jl_cmd.specs.Caches.{CallsLawfully, IsOfCall};
-ghost use Rattle.jl_cmd.specs.Calling.{CallWarns, LeavesAsked, LeavesCalled, ComputedAt};
-ghost use Rattle.jl_cmd.specs.Coming.{ComesAsked, ComesCalled, HasComputed};
+ghost use Rattle.jl_cmd.specs.Calling.{LeavesAsked, ComputedAt};
+ghost use Rattle.jl_cmd.specs.Coming.{ComesAsked, HasComputed};
 ghost use Rattle.jl_cmd.specs.Computing.{Computes, Counts, IsRefusal};
+ghost use Rattle.jl_cmd.specs.of.Call.{ComputesCall};
 
 use crate::arguments::{ArgumentsFault, read_arguments};
 use crate::computed::{Computed, failed, printed, refused_arguments, refused_module};
@@ -96,21 +97,12 @@ fn called<L: Library, F: Folder, H: Host>(
     requires module_name { IsTrue (is_name memory.now.module) }
     requires module_size { length (L.loaded lib.old) ≤ MOST_TEXT_BYTES }
     requires faultless { module_fault_of L.fault (L.loaded lib.old) ≡ None }
-    ensures lawful { (F.view folder.old).told → CallsLawfully memory.now.location L.answer
-        (IsOfCall (root_of memory.now.location) memory.now.module name.now (F.view folder.old).token) (F.view folder.old) (F.view folder.new) }
     ensures computes { Computes (called_of L.answer (L.code (L.loaded lib.old) name.now) args.now)
         (IsTrusted (root_of memory.now.location) L.answer (F.view folder.old) (F.view folder.new)) result }
-    ensures calls { Counts result (L.calls lib.old) (L.calls lib.new) }
-    ensures warns { CallWarns (meanings L.code L.line L.fault L.answer) memory.now (L.loaded lib.old) name.now args.now
-        (F.view folder.old) (F.view folder.new) warnings.old.items warnings.new.items }
-    ensures alone { (F.view folder.old).told → IsLone (F.view folder.old).token (moved (F.view folder.old) (F.view folder.new))
-        → IsSound (root_of memory.now.location) L.answer (state (F.view folder.old))
-        → (Rose (F.view folder.old).faults (F.view folder.new).faults → ⊥)
-        → ComputedAt result (LeavesCalled memory.now (L.loaded lib.old) name.now args.now (stretch (meanings L.code L.line L.fault L.answer) (L.calls lib.old) (L.calls lib.new)
-        (F.view folder.old) (F.view folder.new) (H.view host.old) (H.view host.new))) }
-    ensures comes { ComputedAt result (ComesCalled memory.now (L.loaded lib.old) name.now args.now (stretch (meanings L.code L.line L.fault L.answer) (L.calls lib.old) (L.calls lib.new)
+    ensures computed { ComputesCall memory.now (L.loaded lib.old) name.now args.now
+        (stretch (meanings L.code L.line L.fault L.answer) (L.calls lib.old) (L.calls lib.new)
         (F.view folder.old) (F.view folder.new) (H.view host.old) (H.view host.new))
-        (HasComputed result warnings.old.items warnings.new.items)) }
+        result warnings.old.items warnings.new.items }
     ensures idle { IsRefusal result → (folder.new ≡ folder.old) × (host.new ≡ host.old) }
     ensures frame { FolderKeeps (F.view folder.old) (F.view folder.new) }
     ensures host { HostKeeps (H.view host.old) (H.view host.new) }
@@ -139,21 +131,12 @@ pub fn compute<L: Library, F: Folder, H: Host>(
 ) -> Computed
     requires token { (F.view folder.old).token ≡ memory.now.token }
     requires module_name { IsTrue (is_name memory.now.module) }
-    ensures lawful { (F.view folder.old).told → CallsLawfully memory.now.location L.answer
-        (IsOfCall (root_of memory.now.location) memory.now.module name.now (F.view folder.old).token) (F.view folder.old) (F.view folder.new) }
     ensures computes { Computes (call_output (meanings L.code L.line L.fault L.answer) bytes.now name.now args.now)
         (IsTrusted (root_of memory.now.location) L.answer (F.view folder.old) (F.view folder.new)) result }
-    ensures calls { Counts result (L.calls lib.old) (L.calls lib.new) }
-    ensures warns { CallWarns (meanings L.code L.line L.fault L.answer) memory.now bytes.now name.now args.now
-        (F.view folder.old) (F.view folder.new) warnings.old.items warnings.new.items }
-    ensures alone { (F.view folder.old).told → IsLone (F.view folder.old).token (moved (F.view folder.old) (F.view folder.new))
-        → IsSound (root_of memory.now.location) L.answer (state (F.view folder.old))
-        → (Rose (F.view folder.old).faults (F.view folder.new).faults → ⊥)
-        → ComputedAt result (LeavesCalled memory.now bytes.now name.now args.now (stretch (meanings L.code L.line L.fault L.answer) (L.calls lib.old) (L.calls lib.new)
-        (F.view folder.old) (F.view folder.new) (H.view host.old) (H.view host.new))) }
-    ensures comes { ComputedAt result (ComesCalled memory.now bytes.now name.now args.now (stretch (meanings L.code L.line L.fault L.answer) (L.calls lib.old) (L.calls lib.new)
+    ensures computed { ComputesCall memory.now bytes.now name.now args.now
+        (stretch (meanings L.code L.line L.fault L.answer) (L.calls lib.old) (L.calls lib.new)
         (F.view folder.old) (F.view folder.new) (H.view host.old) (H.view host.new))
-        (HasComputed result warnings.old.items warnings.new.items)) }
+        result warnings.old.items warnings.new.items }
     ensures idle { IsRefusal result → (folder.new ≡ folder.old) × (host.new ≡ host.old) }
     ensures frame { FolderKeeps (F.view folder.old) (F.view folder.new) }
     ensures host { HostKeeps (H.view host.old) (H.view host.new) }

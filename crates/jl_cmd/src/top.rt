@@ -35,12 +35,15 @@ fn given<L: Library, F: Folder, S: Source, O: Sink, E: Sink, H: Host>(
 ) -> Warned
     requires token { (H.view host.old).token ≡ (F.view folder.old).token }
     requires file { GivenHasModule (command_of settings.now) }
-    ensures ran { Ran (command_of settings.now) (course (meanings L.code L.line L.fault L.answer) (L.calls lib.old) (L.calls lib.new) (F.view folder.old) (F.view folder.new)
-        (H.view host.old) (H.view host.new) (S.view input.old) (S.view input.new) (O.view out.old) (O.view out.new)) (E.view err.old) (sink_point (E.view err.new))
-        result.ended result.lines }
+    ensures ran { Ran (command_of settings.now)
+        (course (meanings L.code L.line L.fault L.answer) (L.calls lib.old) (L.calls lib.new)
+        (F.view folder.old) (F.view folder.new) (H.view host.old) (H.view host.new)
+        (S.view input.old) (S.view input.new) (O.view out.old) (O.view out.new))
+        (E.view err.old) (sink_point (E.view err.new)) result.ended result.lines }
     ensures err { SinkKeeps (E.view err.old) (E.view err.new) }
     // What it has no use for it leaves alone.
-    ensures unused { LeavesAlone (command_of settings.now) ((result.ended ≡ NoModule) ⊎ (result.ended ≡ FolderFault))
+    ensures unused { LeavesAlone (command_of settings.now)
+        ((result.ended ≡ NoModule) ⊎ (result.ended ≡ FolderFault))
         lib.old lib.new folder.old folder.new host.old host.new input.old input.new }
 {
     match settings {
@@ -93,11 +96,14 @@ fn command<L: Library, F: Folder, S: Source, O: Sink, E: Sink, H: Host>(
     host: &mut H,
 ) -> Warned
     requires token { (H.view host.old).token ≡ (F.view folder.old).token }
-    ensures ran { Ran (given_by words.now (H.view host.old).processors) (course (meanings L.code L.line L.fault L.answer) (L.calls lib.old) (L.calls lib.new) (F.view folder.old) (F.view folder.new)
-        (H.view host.old) (H.view host.new) (S.view input.old) (S.view input.new) (O.view out.old) (O.view out.new)) (E.view err.old) (sink_point (E.view err.new))
-        result.ended result.lines }
+    ensures ran { Ran (given_by words.now (H.view host.old).processors)
+        (course (meanings L.code L.line L.fault L.answer) (L.calls lib.old) (L.calls lib.new)
+        (F.view folder.old) (F.view folder.new) (H.view host.old) (H.view host.new)
+        (S.view input.old) (S.view input.new) (O.view out.old) (O.view out.new))
+        (E.view err.old) (sink_point (E.view err.new)) result.ended result.lines }
     ensures err { SinkKeeps (E.view err.old) (E.view err.new) }
-    ensures unused { LeavesAlone (given_by words.now (H.view host.old).processors) ((result.ended ≡ NoModule) ⊎ (result.ended ≡ FolderFault))
+    ensures unused { LeavesAlone (given_by words.now (H.view host.old).processors)
+        ((result.ended ≡ NoModule) ⊎ (result.ended ≡ FolderFault))
         lib.old lib.new folder.old folder.new host.old host.new input.old input.new }
 {
     match settings(alloc, words, host.processors()) {
@@ -111,8 +117,10 @@ fn command<L: Library, F: Folder, S: Source, O: Sink, E: Sink, H: Host>(
 // A fault of that stream drops its own text and changes nothing else.
 fn report<E: Sink>(err: &mut E, warned: &Warned)
     ensures text { IsClear (E.view err.old) (E.view err.new)
-        → (E.view err.new).written ≡ (E.view err.old).written ++ (warned.now.lines ++ last_text warned.now.ended) }
-    ensures each { (E.view err.old).told → WroteBoth warned.now.lines (last_text warned.now.ended) (E.view err.old) (E.view err.new) }
+        → (E.view err.new).written
+        ≡ (E.view err.old).written ++ (warned.now.lines ++ last_text warned.now.ended) }
+    ensures each { (E.view err.old).told
+        → WroteBoth warned.now.lines (last_text warned.now.ended) (E.view err.old) (E.view err.new) }
     ensures frame { SinkKeeps (E.view err.old) (E.view err.new) }
 {
     let _wrote = write_all(err, warned.lines.as_str().as_bytes());
@@ -133,11 +141,14 @@ pub fn run_plain<L: Library, F: Folder, S: Source, O: Sink, E: Sink, H: Host>(
     host: &mut H,
 ) -> u8
     requires token { (H.view host.old).token ≡ (F.view folder.old).token }
-    ensures ran { RanTo (given_by words.now (H.view host.old).processors) (course (meanings L.code L.line L.fault L.answer) (L.calls lib.old) (L.calls lib.new) (F.view folder.old) (F.view folder.new)
-        (H.view host.old) (H.view host.new) (S.view input.old) (S.view input.new) (O.view out.old) (O.view out.new)) (E.view err.old) (E.view err.new)
-        result }
+    ensures ran { RanTo (given_by words.now (H.view host.old).processors)
+        (course (meanings L.code L.line L.fault L.answer) (L.calls lib.old) (L.calls lib.new)
+        (F.view folder.old) (F.view folder.new) (H.view host.old) (H.view host.new)
+        (S.view input.old) (S.view input.new) (O.view out.old) (O.view out.new))
+        (E.view err.old) (E.view err.new) result }
     // What the command has no use for it leaves alone.
-    ensures unused { LeavesAlone (given_by words.now (H.view host.old).processors) ((result ≡ 9) ⊎ (result ≡ 10))
+    ensures unused { LeavesAlone (given_by words.now (H.view host.old).processors)
+        ((result ≡ 9) ⊎ (result ≡ 10))
         lib.old lib.new folder.old folder.new host.old host.new input.old input.new }
 {
     let warned = command(alloc, words, lib, folder, input, out, err, host);
@@ -159,15 +170,20 @@ pub fn run<L: Library, F: Folder, S: Source, O: Sink, E: Sink, H: Host>(
     host: &mut H,
 ) -> u8
     requires token { (H.view host.old).token ≡ (F.view folder.old).token }
-    ensures ran { RanTo (given_by words.now (H.view host.old).processors) (course (meanings L.code L.line L.fault L.answer) (L.calls lib.old) (L.calls lib.new) (F.view folder.old) (F.view folder.new)
-        (H.view host.old) (H.view host.new) (S.view input.old) (S.view input.new) (O.view out.old) (O.view out.new)) (E.view err.old) (E.view err.new)
-        result }
+    ensures ran { RanTo (given_by words.now (H.view host.old).processors)
+        (course (meanings L.code L.line L.fault L.answer) (L.calls lib.old) (L.calls lib.new)
+        (F.view folder.old) (F.view folder.new) (H.view host.old) (H.view host.new)
+        (S.view input.old) (S.view input.new) (O.view out.old) (O.view out.new))
+        (E.view err.old) (E.view err.new) result }
     // What that says of the status.
-    ensures runs { Runs (given_by words.now (H.view host.old).processors) (course (meanings L.code L.line L.fault L.answer) (L.calls lib.old) (L.calls lib.new) (F.view folder.old) (F.view folder.new)
-        (H.view host.old) (H.view host.new) (S.view input.old) (S.view input.new) (O.view out.old) (O.view out.new)) (E.view err.old) (E.view err.new)
-        result }
+    ensures runs { Runs (given_by words.now (H.view host.old).processors)
+        (course (meanings L.code L.line L.fault L.answer) (L.calls lib.old) (L.calls lib.new)
+        (F.view folder.old) (F.view folder.new) (H.view host.old) (H.view host.new)
+        (S.view input.old) (S.view input.new) (O.view out.old) (O.view out.new))
+        (E.view err.old) (E.view err.new) result }
     // What the command has no use for it leaves alone.
-    ensures unused { LeavesAlone (given_by words.now (H.view host.old).processors) ((result ≡ 9) ⊎ (result ≡ 10))
+    ensures unused { LeavesAlone (given_by words.now (H.view host.old).processors)
+        ((result ≡ 9) ⊎ (result ≡ 10))
         lib.old lib.new folder.old folder.new host.old host.new input.old input.new }
 {
     run_plain(alloc, words, lib, folder, input, out, err, host)

@@ -8,21 +8,36 @@ use Rattle.jl_rely.specs.Claims.{GoesOn}
 use Rattle.jl_rely.specs.Steps.{IsLone}
 use Rattle.jl_entry.specs.Names.{root_of}
 use Rattle.jl_protocol.specs.Tidy.{IsSound}
+use Rattle.jl_store.specs.declared.memory.Memory.{Memory}
 use Rattle.jl_store.specs.declared.memory.Warning.{Warning}
 use Rattle.jl_store.specs.Trust.{IsTrusted}
 use Rattle.jl_words.specs.ModuleNames.{module_name_of}
+use Rattle.jl_cmd.specs.declared.computed.Computed.{Computed}
 use Rattle.jl_cmd.specs.declared.ended.Ended.{Ended}
 use Rattle.jl_cmd.specs.declared.ended.Ended.TheVariants.{Usage, ReadFault, NoMemory, NoModule, FolderFault}
-use Rattle.jl_cmd.specs.Calling.{memory_at, AreOfCall, LeavesRead, EndedAt}
-use Rattle.jl_cmd.specs.Caches.{CallsIn, MakesNone}
-use Rattle.jl_cmd.specs.Coming.{CallComes, EndsWith}
-use Rattle.jl_cmd.specs.Computing.{Calls}
+use Rattle.jl_cmd.specs.Calling.{memory_at, CallWarns, AreOfCall, LeavesCalled, LeavesRead, ComputedAt, EndedAt}
+use Rattle.jl_cmd.specs.Caches.{CallsLawfully, IsOfCall, CallsIn, MakesNone}
+use Rattle.jl_cmd.specs.Coming.{HasComputed, ComesCalled, CallComes, EndsWith}
+use Rattle.jl_cmd.specs.Computing.{Counts, Calls}
 use Rattle.jl_cmd.specs.Course.{Stretch}
 use Rattle.jl_cmd.specs.Endings.{Finishes, LacksTold, WritesNothing, status_of}
 use Rattle.jl_cmd.specs.Met.{Met, HasRead, bytes_in}
 use Rattle.jl_cmd.specs.Output.{call_output}
 use Rattle.jl_cmd.specs.Texts.{warning_lines}
 use Rattle.jl_cmd.specs.Uncalled.{IsUncalled}
+
+-- ---- what is computed
+
+-- What a call of a name, over a module's bytes, a text of arguments and the cache, did to come to this, with the warnings that it added: lawful moves of its
+-- own function; the library's count; of what it warns; what a lone call leaves; and how it came to its answer
+pub record ComputesCall (memory : Memory) (bytes name args : List ℕ) (v : Stretch) (c : Computed) (warnings warnings' : List Warning) : Type 0 where
+  pub lawful : v.folder.told
+      → CallsLawfully memory.location v.means.answer (IsOfCall (root_of memory.location) memory.«module» name v.folder.token) v.folder v.folder'
+  pub calls : Counts c v.calls v.calls'
+  pub warns : CallWarns v.means memory bytes name args v.folder v.folder' warnings warnings'
+  pub alone : v.folder.told → IsLone v.folder.token (moved v.folder v.folder') → IsSound (root_of memory.location) v.means.answer (state v.folder)
+      → (Rose v.folder.faults v.folder'.faults → ⊥) → ComputedAt c (LeavesCalled memory bytes name args v)
+  pub comes : ComputedAt c (ComesCalled memory bytes name args v (HasComputed c warnings warnings'))
 
 -- ---- what is said and left
 

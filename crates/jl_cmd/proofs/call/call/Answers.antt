@@ -53,8 +53,9 @@ returns-in-Bytes-clause-ended g c =
     let waits = c.read_file.ensures.waits in
     let frame = c.read_file.ensures.frame in
     let did = c.compute-computed.ensures in
+    let done = did.computed in
     let lawful' = λ (t : mid.told).
-    subst (λ (u : List ℕ). CallsLawfully memory.location lib.answer (IsOfCall (root_of memory.location) memory.«module» c.args.name.now u) mid new) frame.token (did.lawful t) in
+    subst (λ (u : List ℕ). CallsLawfully memory.location lib.answer (IsOfCall (root_of memory.location) memory.«module» c.args.name.now u) mid new) frame.token (done.lawful t) in
     let lawful = λ (t : mid.told). subst (λ (p : PathView). CallsLawfully p lib.answer (IsOfCall (root_of p) memory.«module» c.args.name.now old.token) mid new) c.in-Ok.ensures.location (lawful' t) in
     let parts : Parts v mid c.args.file.now c.args.location.now memory bytes =
     record {
@@ -70,7 +71,7 @@ returns-in-Bytes-clause-ended g c =
     call_read v c.args.file.now c.args.location.now c.args.name.now c.args.args.now (g.O.Sink.view c.args.out.now) mid memory bytes parts (g.O.Sink.view c.written.new.out) c.compute-computed.result c.written.result.ended c.written.result.lines c.new-warnings.result.items c.compute-computed.new.warnings.items c.new-warnings.ensures.items
     (λ told. lawful (frame.told told))
     (subst (λ (p : PathView). Computes (call_output v.means bytes c.args.name.now c.args.args.now) (IsTrusted (root_of p) lib.answer mid new) c.compute-computed.result) c.in-Ok.ensures.location did.computes)
-    did.calls did.warns did.alone did.comes
+    done.calls done.warns done.alone done.comes
     (λ refusal told. subst (λ (x : FolderView). Waits old x) (sym (ap folder.view (did.idle refusal).0)) (waits told))
     (λ refusal. ap (λ (x : HostView). x.moments) (ap host.view (did.idle refusal).1))
     c.written.ensures.writes c.written.ensures.calls
