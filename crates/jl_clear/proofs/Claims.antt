@@ -1,12 +1,12 @@
 -- What a clearing promises to its caller.
-use Rattle.std.proofs.Common.{◌≡◌, ◌⊎◌, inl, inr, ⊎_elim, None, Some, Option, false, true, true≢false, sym, ap, ◌∙◌}
+use Rattle.std.proofs.Common.{◌≡◌, ◌⊎◌, inl, inr, ⊎_elim, None, Some, Option, false, true, true≢false, sym, ap, subst, ◌∙◌}
 use Rattle.std.specs.Option.{option_map_or}
 use Rattle.jl_text.specs.Paths.{PathView}
 use Rattle.jl_folder.specs.declared.moves.Place.{Place}
 use Rattle.jl_folder.specs.declared.moves.Place.TheVariants.{Folder, File}
 use Rattle.jl_folder.specs.State.{State, IsState, place_at, is_file, is_folder, is_file_place, is_folder_place}
 use Rattle.jl_folder.specs.Views.{FolderView, state, moved}
-use Rattle.jl_entry.specs.Names.{IsStoreName, IsStoreFolder, IsBelow}
+use Rattle.jl_entry.specs.Names.{IsStoreName, IsStoreFolder, IsBelow, below}
 use Rattle.jl_rely.specs.Steps.{IsLone}
 use Rattle.jl_rely.specs.Claims.{Called, Anywhere, AnyMove}
 use Rattle.jl_rely.proofs.Composed.{called_keeps, called_for}
@@ -16,11 +16,12 @@ use Rattle.jl_protocol.specs.Proper.{IsProper, IsLawful}
 use Rattle.jl_protocol.specs.Tidy.{IsTidy, IsSound}
 use Rattle.jl_protocol.proofs.Kills.{sound_carried}
 use Rattle.jl_clear.specs.declared.removing.Clear.{Clear}
-use Rattle.jl_clear.specs.declared.removing.Clear.TheVariants.{Cleared}
+use Rattle.jl_clear.specs.declared.removing.Clear.TheVariants.{Cleared, NoMemory}
 use Rattle.jl_clear.specs.Taking.{IsTaking, IsOfStore, IsAsBefore, HasOnly, IsThinned}
-use Rattle.jl_clear.specs.Clearing.{Clears}
+use Rattle.jl_clear.specs.Clearing.{Clears, ClearsBelow}
 use Rattle.jl_clear.specs.Cleared.{ClearsPaths}
-use Rattle.jl_clear.proofs.Paths.{by_place, below_then}
+use Rattle.jl_clear.proofs.Paths.{by_place, below_then, below_more}
+use Rattle.jl_clear.proofs.Parts.{clears_none}
 use Rattle.jl_clear.proofs.Thinning.{thinned_alone, away_at_end, as_before}
 use Rattle.jl_clear.proofs.Removals.{taking_proper, taking_lawful}
 
@@ -74,3 +75,15 @@ module _ (root : PathView) (Of : PathView → Type 0) (answer : Clear) (old new 
           beside = λ p apart. ⊎_elim (λ (same : IsAsBefore p (state old) (state new)). same) (λ (g : Of p × IsOfStore root p × (place_at (state new) p ≡ None)). absurd (apart g.0)) (th.each p);
         };
   }
+
+-- the same of what stands at some parts of the root
+pub claims_below : (root parts path : PathView) (answer : Clear) (old new : FolderView) → path ≡ below root parts
+    → ClearsBelow root path answer old new → old.told → IsState (state old)
+    → ClearsPaths root (IsBelow (below root parts)) answer old new
+claims_below root parts path answer old new e a t ok =
+    let b = subst (λ (q : PathView). ClearsBelow root q answer old new) e a in
+    claims root (IsBelow (below root parts)) answer old new b t ok (λ p of. below_more root parts p of)
+
+-- where there was no memory for the path, nothing was done
+pub not_begun : (root : PathView) (Of : PathView → Type 0) (v : FolderView) → Clears root Anywhere Of Of Of NoMemory v v
+not_begun root Of v = clears_none root Anywhere Of Of Of NoMemory v (λ f. cc) (λ done. cc) (λ done. cc)

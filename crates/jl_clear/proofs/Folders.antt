@@ -15,7 +15,8 @@ use Rattle.jl_entry.proofs.NameFacts.{final_not_folder, temp_not_folder, final_b
 use Rattle.jl_rely.proofs.Causes.{place_none}
 use Rattle.jl_protocol.specs.Tidy.{IsTidy}
 use Rattle.jl_clear.specs.Taking.{IsInside, IsOfStore}
-use Rattle.jl_clear.specs.Clearing.{IsPlace, IsBehind, IsFunctionPart}
+use Rattle.jl_clear.specs.Levels.{IsFunctionPart}
+use Rattle.jl_clear.specs.Clearing.{IsPlace, IsBehind}
 use Rattle.jl_clear.proofs.Paths.{free_named}
 
 -- ---- forms of names are not empty

@@ -3,7 +3,10 @@ pub mod RemovingLemmas
 pub mod Paths
 pub mod Thinning
 pub mod Folders
+pub mod LevelLemmas
+pub mod Depths
 pub mod Removals
+pub mod Stops
 pub mod Parts
 pub mod Listings
 pub mod Claims

@@ -1,14 +1,16 @@
 -- What a listing tells of a folder, and what is left when its names were handled.
-use Rattle.std.proofs.Common.{◌≡◌, ◌≢◌, ◌⊎◌, inl, inr, ⊎_elim, ℕ, ◌≤◌, List, [], ◌∷◌, ◌++◌, Bool, false, true, Option, None, Some, true≢false, refl, sym, ap, subst, ◌∙◌, arith, append_assoc, length, length-append, Contains}
+use Rattle.std.proofs.Common.{◌≡◌, ◌≢◌, ◌⊎◌, inl, inr, ⊎_elim, ℕ, ◌≤◌, List, [], ◌∷◌, ◌++◌, Bool, false, true, Option, None, Some, Result, Ok, Err, true≢false, refl, sym, ap, subst, ◌∙◌, arith, append_assoc, length, length-append, Contains}
 use Rattle.std.proofs.lemmas.List.{append_cancel_left}
 use Rattle.std.specs.Option.{option_map_or}
+use Rattle.std.specs.Prelude.{⊤}
+use Rattle.std.specs.Result.{IsErrAnd}
 use Rattle.jl_text.specs.Paths.{PathView}
 use Rattle.jl_folder.specs.declared.moves.Place.{Place}
 use Rattle.jl_folder.specs.declared.moves.Place.TheVariants.{Folder, File}
 use Rattle.jl_folder.specs.declared.listing.Name.{Name}
 use Rattle.jl_folder.specs.State.{State, IsState, Trace, AtSome, AtEach, IsTrace, place_at, is_folder, is_file, is_folder_place, is_file_place, run}
-use Rattle.jl_folder.specs.Views.{FolderView, FolderAnswers, state, moved}
-use Rattle.jl_folder.specs.Listing.{StandsRight, ListsNames}
+use Rattle.jl_folder.specs.Views.{FolderView, state, moved}
+use Rattle.jl_folder.specs.Listing.{Stands, ListsNames}
 use Rattle.jl_folder.specs.Calls.{Waits}
 use Rattle.jl_folder.proofs.Frames.{answers_next, answers_as}
 use Rattle.jl_entry.specs.Names.{IsStoreName, IsStoreFolder, IsBelow}
@@ -22,9 +24,13 @@ use Rattle.jl_rely.proofs.Moving.{moves_then, moves_waits}
 use Rattle.jl_rely.proofs.Seen.{state_each, state_new, each_or_some, some_sooner, some_later}
 use Rattle.jl_clear.specs.Taking.{IsTaking, IsInside, IsOfStore, HasOnly}
 use Rattle.jl_clear.specs.declared.removing.Clear.{Clear}
-use Rattle.jl_clear.specs.declared.removing.Clear.TheVariants.{Cleared, Fault}
+use Rattle.jl_clear.specs.declared.removing.Clear.TheVariants.{Cleared}
+use Rattle.jl_clear.specs.declared.stop.Stop.{Stop}
+use Rattle.jl_clear.specs.Removing.{answer_of}
+use Rattle.jl_clear.specs.Listings.{Lists}
 use Rattle.jl_clear.specs.Clearing.{IsEmptied, IsBehind, HasAll, Handled, ClearsPart, NoPath, Thinned, Clears}
 use Rattle.jl_clear.proofs.Paths.{by_place, child_there, inside_child, inside_below, below_more, here_or_inside, nothing_inside, no_folder, no_file}
+use Rattle.jl_clear.proofs.Stops.{err_is, stop_undone, stop_told, stop_tells}
 use Rattle.jl_clear.proofs.Folders.{name_inside}
 use Rattle.jl_clear.proofs.Thinning.{thinned_alone, was_there, no_folder_stays, only_stays, away_at_end}
 
@@ -192,54 +198,60 @@ module _ (root folder : PathView) (Form : List ℕ → Type 0) (names : List Nam
   }
 
   -- the names of a folder, and what comes after
-  pub clears_listed : (May Went Gone : PathView → Type 0) (answer : Clear) (old mid new : FolderView) {Fails : Type 0} → ((p : PathView) → Went p → IsStoreName root p → IsBehind Form folder p) → FolderAnswers Fails old mid → (Fails → ⊥) → (old.told → Waits old mid) → (old.told → ListsNames folder names (state old) (moved old mid)) → Clears root (HasAll folder names) May (Handled Form folder names) Gone answer mid new → Clears root Anywhere May Went Gone answer old new
-  clears_listed May Went Gone answer old mid new inner frame well waits lists b = record {
-    frame = answers_next old mid new frame well b.frame (λ f. f) (λ f. f);
-    moves = λ t. moves_then (IsTaking root May) old mid new (moves_waits (IsTaking root May) old mid frame.token (waits t)) (b.moves (frame.told t));
+  pub clears_listed : (May Went Gone : PathView → Type 0) (answer : Clear) (old mid new : FolderView) → ((p : PathView) → Went p → IsStoreName root p → IsBehind Form folder p) → Lists folder (Ok (Some names)) old mid → Clears root (HasAll folder names) May (Handled Form folder names) Gone answer mid new → Clears root Anywhere May Went Gone answer old new
+  clears_listed May Went Gone answer old mid new inner l b = record {
+    frame = answers_next old mid new l.frame (λ e. cc) b.frame (λ f. f) (λ f. f);
+    moves = λ t. moves_then (IsTaking root May) old mid new (moves_waits (IsTaking root May) old mid l.frame.token (l.waits t)) (b.moves (l.frame.told t));
     went = λ t done ok p w name.
-        let first = goes_waits old mid frame.token (waits t) in
-        let second = (b.moves (frame.told t)).went in
+        let first = goes_waits old mid l.frame.token (l.waits t) in
+        let second = (b.moves (l.frame.told t)).went in
         let (part, rest, form, e) = inner p w name in
         ⊎_elim
         (λ (each : AtEach (state old) (moved old mid) (λ s. is_file s p ≡ true)).
-        let found = named_if_each folder names (state old) (moved old mid) ok first.lawful (lists t) part rest (there part form) (subst (λ (q : PathView). AtEach (state old) (moved old mid) (λ s. is_file s q ≡ true)) e each) in
-        some_later (λ s. is_file s p ≡ false) old mid new first second (b.went (frame.told t) done (state_new old mid first ok) p (behind_handled p part rest form e found) name))
+        let found = named_if_each folder names (state old) (moved old mid) ok first.lawful (l.names t) part rest (there part form) (subst (λ (q : PathView). AtEach (state old) (moved old mid) (λ s. is_file s q ≡ true)) e each) in
+        some_later (λ s. is_file s p ≡ false) old mid new first second (b.went (l.frame.told t) done (state_new old mid first ok) p (behind_handled p part rest form e found) name))
         (λ (some : AtSome (state old) (moved old mid) (λ s. is_file s p ≡ false)). some_sooner (λ s. is_file s p ≡ false) old mid new first second some)
         (each_or_some (λ s. is_file s p) (state old) (moved old mid));
     alone = λ t done ok lone pre p g store only.
-        let t' = frame.told t in
-        let first = goes_waits old mid frame.token (waits t) in
+        let t' = l.frame.told t in
+        let first = goes_waits old mid l.frame.token (l.waits t) in
         let parts = lone_parts old mid new first (b.moves t').went lone in
-        let same = waits_alone old mid (waits t) parts.0 in
-        let none = no_moves old mid (waits t) parts.0 in
-        let has : HasAll folder names (state old) = λ name stands. (lists t).every name (at_each (state old) (λ s. StandsRight s folder name) (moved old mid) none stands) in
+        let same = waits_alone old mid (l.waits t) parts.0 in
+        let none = no_moves old mid (l.waits t) parts.0 in
+        let has : HasAll folder names (state old) = λ name stands. (l.names t).every name (at_each (state old) (λ s. Stands s folder name) (moved old mid) none stands) in
         b.alone t' done (state_new old mid first ok) parts.1 (subst (HasAll folder names) (sym same) has) p g store (subst (HasOnly root p) (sym same) only);
   }
 
 -- ---- no names
 
-module _ (root : PathView) (May Went Gone : PathView → Type 0) (answer : Clear) (old new : FolderView) {Fails : Type 0} (frame : FolderAnswers Fails old new) (to : answer ≡ Fault → Fails) (from : Fails → answer ≡ Fault) (waits : old.told → Waits old new) where
-  -- it wasn't done
-  pub clears_unlisted : (answer ≡ Cleared → ⊥) → Clears root Anywhere May Went Gone answer old new
-  clears_unlisted undone = record {
-    frame = answers_as old new frame to from;
-    moves = λ t. moves_waits (IsTaking root May) old new frame.token (waits t);
-    went = λ t done. absurd (undone done);
-    alone = λ t done. absurd (undone done);
+module _ (root folder : PathView) (May Went Gone : PathView → Type 0) (old new : FolderView) where
+  -- the names weren't read
+  pub clears_unread : (Pre : State → Type 0) (r : Result ⊤ Stop) (e : Stop) → IsErrAnd r (λ f. f ≡ e)
+      → Lists folder (Err e) old new → Clears root Pre May Went Gone (answer_of r) old new
+  clears_unread Pre r e is l = subst (λ (x : Result ⊤ Stop). Clears root Pre May Went Gone (answer_of x) old new) (sym (err_is r e is)) record {
+    frame = answers_as old new l.frame (stop_told e) (stop_tells e);
+    moves = λ t. moves_waits (IsTaking root May) old new l.frame.token (l.waits t);
+    went = λ t done. absurd (stop_undone e done);
+    alone = λ t done. absurd (stop_undone e done);
   }
 
   -- there is no such folder
-  pub clears_absent : (folder : PathView) → ((p : PathView) → Went p → IsStoreName root p → (s : State) → IsState s → is_folder s folder ≡ false → place_at s p ≡ None) → ((p : PathView) → Gone p → (s : State) → IsState s → is_folder s folder ≡ false → is_folder s p ≡ false) → (old.told → AtSome (state old) (moved old new) (λ s. is_folder s folder ≡ false)) → Clears root Anywhere May Went Gone answer old new
-  clears_absent folder away gone unmade = record {
-    frame = answers_as old new frame to from;
-    moves = λ t. moves_waits (IsTaking root May) old new frame.token (waits t);
+  pub clears_absent : ((p : PathView) → Went p → IsStoreName root p → (s : State) → IsState s → is_folder s folder ≡ false → place_at s p ≡ None)
+      → ((p : PathView) → Gone p → (s : State) → IsState s → is_folder s folder ≡ false → is_folder s p ≡ false)
+      → Lists folder (Ok None) old new → Clears root Anywhere May Went Gone Cleared old new
+  clears_absent away gone l = record {
+    frame = answers_as old new l.frame (λ f. cc) (λ f. cc);
+    moves = λ t. moves_waits (IsTaking root May) old new l.frame.token (l.waits t);
     went = λ t done ok p w name.
-        let (before, later, split, gone_there) = unmade t in
-        let goes = goes_waits old new frame.token (waits t) in
-        (before, later, split, no_file (run (state old) before) p (away p w name (run (state old) before) (state_each (state old) (moved old new) before later ok goes.lawful split) gone_there));
+        let (before, later, split, gone_there) = l.names t in
+        let goes = goes_waits old new l.frame.token (l.waits t) in
+        let s : State = run (state old) before in
+        let ok' = state_each (state old) (moved old new) before later ok goes.lawful split in
+        (before, later, split, no_file s p (away p w name s ok' gone_there));
     alone = λ t done ok lone pre p g store only.
-        let none = no_moves old new (waits t) lone in
-        ap (λ s. is_folder s p) (waits_alone old new (waits t) lone) ∙ gone p g (state old) ok (at_some (state old) (λ s. is_folder s folder ≡ false) (moved old new) none (unmade t));
+        let none = no_moves old new (l.waits t) lone in
+        let unmade = at_some (state old) (λ s. is_folder s folder ≡ false) (moved old new) none (l.names t) in
+        ap (λ s. is_folder s p) (waits_alone old new (l.waits t) lone) ∙ gone p g (state old) ok unmade;
   }
 
 -- what stands in an absent folder

@@ -1,5 +1,7 @@
 -- Parts of a clearing, one after another.
-use Rattle.std.proofs.Common.{◌≡◌, ◌⊎◌, inl, inr, ⊎_elim, ℕ, zero, suc, ◌+◌, List, [], ◌∷◌, ◌++◌, false, refl, sym, ap, subst, ◌∙◌, arith, take, length-take, Contains}
+use Rattle.std.proofs.Common.{◌≡◌, ◌⊎◌, inl, inr, ⊎_elim, ℕ, zero, suc, ◌+◌, List, [], ◌∷◌, ◌++◌, false, refl, sym, ap, subst, ◌∙◌, arith, take, length-take, Contains, Result, Err}
+use Rattle.std.specs.Prelude.{⊤}
+use Rattle.std.specs.Result.{IsErrAnd}
 use Rattle.std.proofs.lemmas.List.Elements.{Contains-append_cases}
 use Rattle.jl_text.specs.Paths.{PathView}
 use Rattle.jl_folder.specs.declared.listing.Name.{Name}
@@ -11,18 +13,24 @@ use Rattle.jl_folder.specs.State.{State, is_folder, is_file}
 use Rattle.jl_folder.specs.Views.{FolderView, FolderAnswers, state, moved}
 use Rattle.jl_folder.specs.Calls.{Call, RemovesFile, RemovesFolder}
 use Rattle.jl_folder.proofs.Frames.{answers_next, answers_as, answers_none}
-use Rattle.jl_entry.specs.Names.{IsStoreName, IsBelow, IsKeyName, IsCodeName}
+use Rattle.jl_entry.specs.Names.{IsStoreName, IsStoreFolder, IsBelow, IsKeyName, IsCodeName}
 use Rattle.jl_rely.specs.Claims.{Anywhere}
 use Rattle.jl_rely.proofs.Alone.{moves_alone, lone_parts}
 use Rattle.jl_rely.proofs.Moving.{moves_none, moves_then, moves_as, moves_call}
 use Rattle.jl_rely.proofs.Seen.{state_new, some_sooner, some_later, some_as}
-use Rattle.jl_clear.specs.Removing.{clear_of, clear_of_folder}
+use Rattle.jl_clear.specs.declared.levels.Level.{Level}
+use Rattle.jl_clear.specs.declared.levels.Kind.{Kind}
+use Rattle.jl_clear.specs.declared.stop.Stop.{Stop}
+use Rattle.jl_clear.specs.declared.stop.Stop.TheVariants.{NoMemory}
+use Rattle.jl_clear.specs.Removing.{answer_of, clear_of, clear_of_folder}
+use Rattle.jl_clear.proofs.Stops.{err_is, stop_undone}
 use Rattle.jl_clear.specs.declared.removing.Clear.{Clear}
 use Rattle.jl_clear.specs.declared.removing.Clear.TheVariants.{Cleared, Fault}
 use Rattle.jl_clear.proofs.RemovingLemmas.{remove_kinds, remove_dir_kinds, clear_fault, clear_folder_fault}
 use Rattle.jl_clear.specs.Taking.{IsTaking, IsInside}
-use Rattle.jl_clear.specs.Clearing.{IsPlace, IsEmptied, NoPath, ClearsPart, IsFunctionPart, Handled, Clears}
-use Rattle.jl_clear.proofs.Paths.{below_self, here_or_inside, no_folder}
+use Rattle.jl_clear.specs.Levels.{IsFunctionPart, IsInnerName, IsKindName}
+use Rattle.jl_clear.specs.Clearing.{IsPlace, IsEmptied, NoPath, ClearsPart, Handled, Reached, Clears}
+use Rattle.jl_clear.proofs.Paths.{below_self, here_or_inside, no_folder, reached_below}
 use Rattle.jl_clear.proofs.Folders.{below_name, name_not_folder}
 use Rattle.jl_clear.proofs.Thinning.{thinned_alone, none_stays, no_folder_stays, only_stays}
 use Rattle.jl_clear.proofs.Removals.{takes_name, takes_folder, taking_as, file_away, folder_gone}
@@ -59,17 +67,17 @@ module _ (root : PathView) where
   }
 
   -- of fewer paths, from a stronger beginning, where more may go
-  pub clears_as : (Pre Pre' : State → Type 0) (May May' Went Went' Gone Gone' : PathView → Type 0) (answer : Clear) (old new : FolderView) → ((s : State) → Pre' s → Pre s) → ((p : PathView) → May p → May' p) → ((p : PathView) → IsStoreName root p → Went' p → Went p) → ((p : PathView) → Gone' p → Gone p) → Clears root Pre May Went Gone answer old new → Clears root Pre' May' Went' Gone' answer old new
+  pub clears_as : (Pre Pre' : State → Type 0) (May May' Went Went' Gone Gone' : PathView → Type 0) (answer : Clear) (old new : FolderView) → ((s : State) → Pre' s → Pre s) → ((p : PathView) → May p → May' p) → ((p : PathView) → IsStoreName root p → Went' p → Went p) → ((p : PathView) → IsStoreFolder root p → Gone' p → Gone p) → Clears root Pre May Went Gone answer old new → Clears root Pre' May' Went' Gone' answer old new
   clears_as Pre Pre' May May' Went Went' Gone Gone' answer old new pre may went gone a = record {
     frame = a.frame;
     moves = λ t. moves_as (IsTaking root May) (IsTaking root May') (taking_as root May May' may) old new (a.moves t);
     went = λ t done ok p w name. a.went t done ok p (went p name w) name;
-    alone = λ t done ok lone p' p g store only. a.alone t done ok lone (pre (state old) p') p (gone p g) store only;
+    alone = λ t done ok lone p' p g store only. a.alone t done ok lone (pre (state old) p') p (gone p store g) store only;
   }
 
   -- where more may go
   pub clears_wider : (Pre : State → Type 0) (May May' Went Gone : PathView → Type 0) (answer : Clear) (old new : FolderView) → ((p : PathView) → May p → May' p) → Clears root Pre May Went Gone answer old new → Clears root Pre May' Went Gone answer old new
-  clears_wider Pre May May' Went Gone answer old new may a = clears_as Pre Pre May May' Went Went Gone Gone answer old new (λ s pre. pre) may (λ p name w. w) (λ p g. g) a
+  clears_wider Pre May May' Went Gone answer old new may a = clears_as Pre Pre May May' Went Went Gone Gone answer old new (λ s pre. pre) may (λ p name w. w) (λ p store g. g) a
 
   -- one after the other
   pub clears_then : (Pre : State → Type 0) (May Went Went' Gone Gone' : PathView → Type 0) (answer : Clear) (old mid new : FolderView) → Clears root Pre May Went Gone Cleared old mid → Clears root Anywhere May Went' Gone' answer mid new → Clears root Pre May (λ p. Went p ⊎ Went' p) (λ p. Gone p ⊎ Gone' p) answer old new
@@ -102,6 +110,30 @@ module _ (root : PathView) where
     went = λ t done. absurd (undone done);
     alone = λ t done. absurd (undone done);
   }
+
+  -- a stop is handed on
+  pub clears_err : (Pre Pre' : State → Type 0) (May Went Went' Gone Gone' : PathView → Type 0) (r : Result ⊤ Stop) (e : Stop) (old new : FolderView)
+      → IsErrAnd r (λ f. f ≡ e) → Clears root Pre May Went Gone (answer_of (Err e)) old new
+      → Clears root Pre' May Went' Gone' (answer_of r) old new
+  clears_err Pre Pre' May Went Went' Gone Gone' r e old new is a =
+      subst (λ (x : Result ⊤ Stop). Clears root Pre' May Went' Gone' (answer_of x) old new) (sym (err_is r e is))
+      (clears_undone Pre Pre' May Went Went' Gone Gone' (answer_of (Err e)) old new (stop_undone e) a)
+
+  -- and so is one of the second part
+  pub clears_stopped : (Pre Pre' Pre'' : State → Type 0) (May Went Went' Went'' Gone Gone' Gone'' : PathView → Type 0) (r : Result ⊤ Stop) (e : Stop) (old mid new : FolderView)
+      → IsErrAnd r (λ f. f ≡ e) → Clears root Pre May Went Gone Cleared old mid
+      → Clears root Pre' May Went' Gone' (answer_of (Err e)) mid new
+      → Clears root Pre'' May Went'' Gone'' (answer_of r) old new
+  clears_stopped Pre Pre' Pre'' May Went Went' Went'' Gone Gone' Gone'' r e old mid new is a b =
+      subst (λ (x : Result ⊤ Stop). Clears root Pre'' May Went'' Gone'' (answer_of x) old new) (sym (err_is r e is))
+      (clears_stop Pre Pre' Pre'' May Went Went' Went'' Gone Gone' Gone'' (answer_of (Err e)) old mid new (stop_undone e) a b)
+
+  -- there was no memory for a path
+  pub clears_memory : (Pre : State → Type 0) (May Went Gone : PathView → Type 0) (r : Result ⊤ Stop) (v : FolderView)
+      → IsErrAnd r (λ f. f ≡ NoMemory) → Clears root Pre May Went Gone (answer_of r) v v
+  clears_memory Pre May Went Gone r v is =
+      subst (λ (x : Result ⊤ Stop). Clears root Pre May Went Gone (answer_of x) v v) (sym (err_is r NoMemory is))
+      (clears_none Pre May Went Gone (answer_of (Err NoMemory)) v (λ f. cc) (λ done. cc) (λ done. cc))
 
   -- one file
   pub clears_file : (p : PathView) (r : Removed) (answer : Clear) (old new : FolderView) → answer ≡ clear_of r → IsStoreName root p → FolderAnswers (r ≡ removed.Failed) old new → (old.told → Call old new (RemovesFile p r)) → Clears root Anywhere (IsBelow p) (IsBelow p) (IsBelow p) answer old new
@@ -136,7 +168,7 @@ module _ (root : PathView) where
   pub clears_part : (Form : List ℕ → Type 0) (folder path : PathView) (part : List ℕ) (May : PathView → Type 0) (answer : Clear) (old new : FolderView) → path ≡ folder ++ part ∷ [] → ((p : PathView) → IsBelow (folder ++ part ∷ []) p → May p) → Clears root Anywhere (IsBelow path) (IsBelow path) (IsBelow path) answer old new → Clears root Anywhere May (ClearsPart Form folder part) (ClearsPart Form folder part) answer old new
   clears_part Form folder path part May answer old new e may a =
       clears_as Anywhere Anywhere (IsBelow path) May (IsBelow path) (ClearsPart Form folder part) (IsBelow path) (ClearsPart Form folder part) answer old new (λ s pre. pre)
-      (λ p is. may p (subst (λ (q : PathView). IsBelow q p) e is)) (λ p name is. subst (λ (q : PathView). IsBelow q p) (sym e) is.1) (λ p is. subst (λ (q : PathView). IsBelow q p) (sym e) is.1) a
+      (λ p is. may p (subst (λ (q : PathView). IsBelow q p) e is)) (λ p name is. subst (λ (q : PathView). IsBelow q p) (sym e) is.1) (λ p store is. subst (λ (q : PathView). IsBelow q p) (sym e) is.1) a
 
   module _ (Form : List ℕ → Type 0) (folder : PathView) (names : List Name) (May : PathView → Type 0) where
     -- no names yet
@@ -150,7 +182,7 @@ module _ (root : PathView) where
         let This : PathView → Type 0 = ClearsPart Form folder item.part in
         let More : PathView → Type 0 = Handled Form folder (take (i + 1) names) in
         clears_as Anywhere Anywhere May May (λ p. Before p ⊎ This p) More (λ p. Before p ⊎ This p) More Cleared old new (λ s pre. pre) (λ p may. may)
-        (λ p name g. handled_more Form folder names i item grown p g) (λ p g. handled_more Form folder names i item grown p g)
+        (λ p name g. handled_more Form folder names i item grown p g) (λ p store g. handled_more Form folder names i item grown p g)
         (clears_then Anywhere May Before This Before This Cleared old mid new a (subst (λ (w : List ℕ). Clears root Anywhere May (ClearsPart Form folder w) (ClearsPart Form folder w) Cleared mid new) same b))
 
     -- all names
@@ -167,5 +199,24 @@ clears_both root folder names May answer old mid new a b =
     let Keys : PathView → Type 0 = Handled IsKeyName folder names in
     let Codes : PathView → Type 0 = Handled IsCodeName folder names in
     let Both : PathView → Type 0 = Handled IsFunctionPart folder names in
-    clears_as root Anywhere Anywhere May May (λ p. Keys p ⊎ Codes p) Both (λ p. Keys p ⊎ Codes p) Both answer old new (λ s pre. pre) (λ p may. may) (λ p name w. both_handled folder names p w) (both_handled folder names)
+    clears_as root Anywhere Anywhere May May (λ p. Keys p ⊎ Codes p) Both (λ p. Keys p ⊎ Codes p) Both answer old new (λ s pre. pre) (λ p may. may) (λ p name w. both_handled folder names p w) (λ p store w. both_handled folder names p w)
     (clears_then root Anywhere May Keys Codes Keys Codes answer old mid new a b)
+
+-- ---- what stands in a folder of a level
+
+handled_as : (Form Form' : List ℕ → Type 0) (folder : PathView) (names : List Name) (p : PathView)
+    → ((part : List ℕ) → Form' part → Form part) → Handled Form' folder names p → Handled Form folder names p
+handled_as Form Form' folder names p f (name, among, (form, is)) = (name, among, (f name.part form, is))
+
+-- what was cleared of names of one kind alone
+pub clears_inner : (root folder : PathView) (names : List Name) (k : Kind) (l given : Level) (answer : Clear) (old new : FolderView)
+    → given ≡ l → ((part : List ℕ) → IsInnerName l part → IsKindName k part)
+    → Clears root Anywhere (Reached (IsKindName k) folder) (Handled (IsKindName k) folder names) (Handled (IsKindName k) folder names) answer old new
+    → Clears root Anywhere (IsBelow folder) (Handled (IsInnerName given) folder names) (Handled (IsInnerName given) folder names) answer old new
+clears_inner root folder names k l given answer old new e f a =
+    let As : PathView → Type 0 = Handled (IsInnerName l) folder names in
+    let Of : PathView → Type 0 = Handled (IsKindName k) folder names in
+    let turn : (p : PathView) → As p → Of p = λ p w. handled_as (IsKindName k) (IsInnerName l) folder names p f w in
+    subst (λ (g : Level). Clears root Anywhere (IsBelow folder) (Handled (IsInnerName g) folder names) (Handled (IsInnerName g) folder names) answer old new) (sym e)
+    (clears_as root Anywhere Anywhere (Reached (IsKindName k) folder) (IsBelow folder) Of As Of As answer old new (λ s pre. pre)
+    (λ p may. reached_below (IsKindName k) folder p may) (λ p name w. turn p w) (λ p store w. turn p w) a)

@@ -9,7 +9,7 @@ use Rattle.jl_folder.specs.State.{State, IsState, place_at, is_folder, is_folder
 use Rattle.jl_entry.specs.Names.{IsBelow, IsKeyName}
 use Rattle.jl_rely.proofs.Effects.{number_apart}
 use Rattle.jl_clear.specs.Taking.{IsInside}
-use Rattle.jl_clear.specs.Clearing.{IsOfEntries, IsBehind}
+use Rattle.jl_clear.specs.Clearing.{Reached, IsOfEntries, IsBehind}
 
 -- ---- paths
 
@@ -34,14 +34,26 @@ pub inside_child : (p : PathView) (part : List ℕ) (rest q : PathView) → q �
 unfolding IsBelow
 inside_child p part rest q e = (rest, e ∙ sym (append_assoc p (part ∷ []) rest))
 
+-- what stands in a folder at names of a form
+module _ (Form : List ℕ → Type 0) (folder p : PathView) where
+  pub reached_below : Reached Form folder p → IsBelow folder p
+  reached_below (part, (form, is)) = below_more folder (part ∷ []) p is
+
+  pub reached_inside : Reached Form folder p → IsInside folder p
+  reached_inside (part, (form, is)) = below_inside folder part p is
+
+  -- is behind one of them
+  pub reached_behind : Reached Form folder p → IsBehind Form folder p
+  unfolding IsBelow
+  reached_behind (part, (form, (rest, e))) = (part, rest, form, e ∙ append_assoc folder (part ∷ []) rest)
+
+  -- and the other way round
+  pub behind_reached : IsBehind Form folder p → Reached Form folder p
+  behind_reached (part, rest, form, e) = (part, (form, inside_child folder part rest p e))
+
 -- what is of a function's entries stands in its folder
 pub entries_below : (function p : PathView) → IsOfEntries function p → IsBelow function p
-entries_below function p (part, (key, is)) = below_more function (part ∷ []) p is
-
--- and behind the name of one
-pub entries_behind : (function p : PathView) → IsOfEntries function p → IsBehind IsKeyName function p
-unfolding IsBelow
-entries_behind function p (part, (key, (rest, e))) = (part, rest, key, e ∙ append_assoc function (part ∷ []) rest)
+entries_below function p of = reached_below IsKeyName function p of
 
 pub below_then : (p q r : PathView) → IsBelow p q → IsBelow q r → IsBelow p r
 unfolding IsBelow

@@ -4,10 +4,10 @@ use Rattle.jl_text.specs.Paths.{PathView, is_fixed}
 use Rattle.jl_folder.specs.declared.listing.Name.{Name}
 use Rattle.jl_folder.specs.State.{State, IsState, place_at, node_at, is_folder}
 use Rattle.jl_folder.specs.Views.{FolderView, FolderAnswers, state, moved}
-use Rattle.jl_folder.specs.Listing.{StandsRight}
-use Rattle.jl_entry.specs.Names.{IsStoreFolder, IsBelow, IsKeyName, IsCodeName}
+use Rattle.jl_folder.specs.Listing.{Stands}
+use Rattle.jl_entry.specs.Names.{IsStoreFolder, IsBelow, IsKeyName}
 use Rattle.jl_rely.specs.Steps.{IsLone}
-use Rattle.jl_rely.specs.Claims.{Moves}
+use Rattle.jl_rely.specs.Claims.{Moves, Anywhere}
 use Rattle.jl_clear.specs.declared.removing.Clear.{Clear}
 use Rattle.jl_clear.specs.declared.removing.Clear.TheVariants.{Cleared, Fault}
 use Rattle.jl_clear.specs.Taking.{IsTaking, IsInside, IsOfStore, HasOnly, WentAway}
@@ -26,17 +26,17 @@ NoPath p = ⊥
 abbrev pub ClearsPart : (Form : List ℕ → Type 0) → PathView → List ℕ → PathView → Type 0
 ClearsPart Form folder part p = Form part × IsBelow (folder ++ part ∷ []) p
 
+-- what stands in a folder at a name of that form
+abbrev pub Reached : (Form : List ℕ → Type 0) → PathView → PathView → Type 0
+Reached Form folder p = (part : List ℕ) × ClearsPart Form folder part p
+
 -- what stands in a function's folder at the name of an entry's folder
 abbrev pub IsOfEntries : PathView → PathView → Type 0
-IsOfEntries function p = (part : List ℕ) × ClearsPart IsKeyName function part p
+IsOfEntries function p = Reached IsKeyName function p
 
 -- what stands in a folder at one of these names, of those of that form
 abbrev pub Handled : (Form : List ℕ → Type 0) → PathView → List Name → PathView → Type 0
 Handled Form folder names p = (name : Name) × Contains names name × ClearsPart Form folder name.part p
-
--- the name of an entry's folder or of the code's file
-abbrev pub IsFunctionPart : List ℕ → Type 0
-IsFunctionPart part = IsKeyName part ⊎ IsCodeName part
 
 -- it stands in the folder, behind a part of that form
 abbrev pub IsBehind : (Form : List ℕ → Type 0) → PathView → PathView → Type 0
@@ -67,3 +67,8 @@ pub record Clears (root : PathView) (Pre : State → Type 0) (May Went Gone : Pa
   pub moves : old.told → Moves (IsTaking root May) old new
   pub went : old.told → answer ≡ Cleared → IsState (state old) → WentAway root Went old new
   pub alone : old.told → answer ≡ Cleared → IsState (state old) → IsLone old.token (moved old new) → Pre (state old) → (p : PathView) → Gone p → IsStoreFolder root p → HasOnly root p (state old) → is_folder (state new) p ≡ false
+
+-- the same of all that stands at or below a path
+abbrev pub ClearsBelow : (root path : PathView) → Clear → FolderView → FolderView → Type 0
+ClearsBelow root path answer old new =
+    Clears root Anywhere (IsBelow path) (IsBelow path) (IsBelow path) answer old new

@@ -2,12 +2,14 @@
 #![tactic(auto)]
 
 mod clear;
-mod entries;
-mod functions;
-mod modules;
+mod levels;
+mod listing;
 mod removing;
+mod stop;
+mod walk;
 
-pub use clear::{clear_all, clear_function, clear_item, clear_module};
-pub use entries::clear_entry;
-pub use functions::clear_entries;
+pub use clear::{clear_all, clear_entries, clear_entry, clear_function, clear_item, clear_module};
+pub use levels::Level;
+pub use listing::names_in;
 pub use removing::Clear;
+pub use stop::Stop;

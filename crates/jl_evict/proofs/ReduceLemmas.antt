@@ -1,5 +1,5 @@
 -- What reading and reducing promise.
-use Rattle.std.proofs.Common.{◌≡◌, ◌⊎◌, inl, inr, ⊎_elim, ℕ, ◌+◌, List, [], ◌∷◌, ◌++◌, take, drop, length-take, refl, sym, ap, subst, ◌∙◌, arith, Contains}
+use Rattle.std.proofs.Common.{◌≡◌, ◌⊎◌, inl, inr, ⊎_elim, ℕ, ◌+◌, Result, Ok, List, [], ◌∷◌, ◌++◌, take, drop, length-take, refl, sym, ap, subst, ◌∙◌, arith, Contains}
 use Rattle.std.specs.Prelude.{⊤}
 use Rattle.std.proofs.lemmas.List.{take-append-drop}
 use Rattle.std.proofs.lemmas.List.Sorted.{Contains-permutation, IsPermutation-sym}
@@ -25,14 +25,13 @@ use Rattle.jl_protocol.proofs.Kills.{sound_carried}
 use Rattle.jl_clear.specs.declared.removing.Clear.{Clear}
 use Rattle.jl_clear.specs.declared.removing.Clear.TheVariants.{Cleared, Fault}
 use Rattle.jl_clear.specs.Taking.{IsTaking}
+use Rattle.jl_clear.specs.declared.stop.Stop.{Stop}
 use Rattle.jl_clear.specs.Clearing.{Clears}
 use Rattle.jl_clear.proofs.Paths.{below_more}
 use Rattle.jl_clear.proofs.Parts.{clears_none, clears_as, clears_wider, clears_then}
 use Rattle.jl_clear.proofs.Removals.{taking_as, taking_proper, taking_lawful}
 use Rattle.jl_clear.proofs.Claims.{claims}
 use Rattle.jl_evict.specs.declared.item.Item.{Item}
-use Rattle.jl_evict.specs.declared.walk.Walk.{Walk}
-use Rattle.jl_evict.specs.declared.walk.Walk.TheVariants as walk
 use Rattle.jl_evict.specs.Items.{IsItemPath, AreItems, AreSeen, WereItems}
 use Rattle.jl_evict.specs.Walks.{Adds}
 use Rattle.jl_evict.specs.declared.reducing.Reduced.{Reduced}
@@ -49,7 +48,7 @@ all_below : (parts : PathView) → IsBelow [] parts
 unfolding IsBelow
 all_below parts = (parts, refl)
 
-module _ (root : PathView) (r : Walk) (before after : List Item) (old new : FolderView) (a : Adds root ⊤ (IsBelow []) r before after old new) where
+module _ (root : PathView) (r : Result ⊤ Stop) (before after : List Item) (old new : FolderView) (a : Adds root ⊤ (IsBelow []) r before after old new) where
   pub read_waits : old.told → Waits old new
   read_waits t = silent_waits old new (a.moves t)
 
@@ -59,12 +58,12 @@ module _ (root : PathView) (r : Walk) (before after : List Item) (old new : Fold
   pub read_paths : before ≡ [] → ArePaths after
   read_paths none = subst ArePaths (sym (all_added none)) a.paths
 
-  pub read_seen : before ≡ [] → old.told → r ≡ walk.Done → IsState (state old) → WereItems root after (state old) (moved old new)
+  pub read_seen : before ≡ [] → old.told → r ≡ Ok tt → IsState (state old) → WereItems root after (state old) (moved old new)
   read_seen none t done ok =
       subst (λ (xs : List Item). WereItems root xs (state old) (moved old new)) (sym (all_added none))
       (seen_as root (state old) (moved old new) (IsBelow []) (λ parts. ⊤) a.added (λ parts form of. tt) (λ parts form each of. all_below parts) (a.found t done ok tt))
 
-  pub read_alone : before ≡ [] → old.told → r ≡ walk.Done → IsLone old.token (moved old new) → IsState (state old) → AreItems root (state old) after
+  pub read_alone : before ≡ [] → old.told → r ≡ Ok tt → IsLone old.token (moved old new) → IsState (state old) → AreItems root (state old) after
   read_alone none t done lone ok = found_alone root (λ parts. ⊤) after (state old) (moved old new) (still old new (a.moves t) lone) (read_seen none t done ok)
 
 -- ---- the items' folders
@@ -101,7 +100,7 @@ module _ (root : PathView) (items : List Item) where
       let Front : PathView → Type 0 = Chosen root (take i items) in
       let More : PathView → Type 0 = Chosen root (take (i + 1) items) in
       let Both : PathView → Type 0 = λ p. Front p ⊎ IsOf root item p in
-      clears_as root Anywhere Anywhere (Chosen root items) (Chosen root items) Both More Both More Cleared old new (λ s pre. pre) (λ p may. may) (λ p name w. chosen_more root items i item grown p w) (λ p g. chosen_more root items i item grown p g)
+      clears_as root Anywhere Anywhere (Chosen root items) (Chosen root items) Both More Both More Cleared old new (λ s pre. pre) (λ p may. may) (λ p name w. chosen_more root items i item grown p w) (λ p store g. chosen_more root items i item grown p g)
       (clears_then root Anywhere (Chosen root items) Front (IsOf root item) Front (IsOf root item) Cleared old mid new a (chosen_one item Cleared mid new among b))
 
 -- those of items that were read are paths in any order
@@ -157,7 +156,7 @@ module _ (root : PathView) (old mid : FolderView) {Fails : Type 0} (frame : Fold
 
     both : Clears root Anywhere Of Of Of (clear_of r) old new
     both =
-        clears_as root Anywhere Anywhere Of Of (λ p. NoPath p ⊎ Of p) Of (λ p. NoPath p ⊎ Of p) Of (clear_of r) old new (λ s pre. pre) (λ p may. may) (λ p name w. inr w) (λ p g. inr g)
+        clears_as root Anywhere Anywhere Of Of (λ p. NoPath p ⊎ Of p) Of (λ p. NoPath p ⊎ Of p) Of (clear_of r) old new (λ s pre. pre) (λ p may. may) (λ p name w. inr w) (λ p store g. inr g)
         (clears_then root Anywhere Of NoPath Of NoPath Of (clear_of r) old mid new waited b.clears)
 
     pub taken_frame : FolderAnswers (r ≡ reduced.FolderFault) old new

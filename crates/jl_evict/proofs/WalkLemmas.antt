@@ -1,7 +1,8 @@
 -- Parts of a walk that add items, one after another.
-use Rattle.std.proofs.Common.{◌≡◌, ◌≢◌, ◌⊎◌, inl, inr, ⊎_elim, ℕ, zero, suc, ◌+◌, ◌<◌, List, [], ◌∷◌, ◌++◌, true, false, true≢false, Option, None, Some, length, take, get_or, map, refl, sym, ap, subst, ◌∙◌, arith, append-nil, append_assoc, length-append, length-take, Contains}
+use Rattle.std.proofs.Common.{◌≡◌, ◌≢◌, ◌⊎◌, inl, inr, ⊎_elim, ℕ, zero, suc, ◌+◌, ◌<◌, List, [], ◌∷◌, ◌++◌, true, false, true≢false, Option, None, Some, Result, Ok, Err, length, take, get_or, map, refl, sym, ap, subst, ◌∙◌, arith, append-nil, append_assoc, length-append, length-take, Contains}
 use Rattle.std.specs.Prelude.{IsTrue, ⊤}
 use Rattle.std.specs.Option.{option_map_or}
+use Rattle.std.specs.Result.{IsErrAnd}
 use Rattle.std.specs.List.{IsDistinct, AllByRecursion}
 use Rattle.std.specs.Str.{bytes_eq}
 use Rattle.std.proofs.lemmas.List.{append_cancel_left, get_or-take}
@@ -27,11 +28,16 @@ use Rattle.jl_clear.proofs.Paths.{below_self, below_more, nothing_inside, no_fol
 use Rattle.jl_evict.specs.declared.item.Item.{Item}
 use Rattle.jl_evict.specs.declared.measure.Measure.{Measure}
 use Rattle.jl_evict.specs.declared.measure.Measure.TheVariants as measure
-use Rattle.jl_evict.specs.declared.walk.Walk.{Walk}
-use Rattle.jl_evict.specs.declared.walk.Walk.TheVariants as walk
+use Rattle.jl_clear.specs.declared.levels.Level.{Level}
+use Rattle.jl_clear.specs.declared.levels.Level.TheVariants as level
+use Rattle.jl_clear.specs.declared.stop.Stop.{Stop}
+use Rattle.jl_clear.specs.declared.stop.Stop.TheVariants as stop
+use Rattle.jl_clear.specs.Levels.{IsLevelName}
+use Rattle.jl_clear.specs.Listings.{Lists}
+use Rattle.jl_clear.proofs.Stops.{err_is}
 use Rattle.jl_evict.specs.declared.walk.Place.{Place}
 use Rattle.jl_evict.specs.Items.{IsEntryParts, IsItemPath, HadBytes, HadAccess, AreSeen}
-use Rattle.jl_evict.specs.Walks.{Measures, Adds, AddsOne, HasSized, HasListed, Pushes, IsAt, Under, AreDistinct, IsRootParts, IsModuleParts, IsFunctionParts}
+use Rattle.jl_evict.specs.Walks.{Measures, Adds, AddsOne, HasSized, HasListed, Pushes, IsAt, Under, AreDistinct, IsRootParts, IsModuleParts, IsFunctionParts, HoldsParts, LevelParts}
 use Rattle.jl_evict.proofs.FoundLemmas.{none_among, only_among, first_among}
 use Rattle.jl_evict.proofs.SeenLemmas.{lists_lasting, bytes_lasting, access_lasting, are_lasting, seen_none, seen_then, seen_as, seen_one}
 
@@ -55,6 +61,14 @@ at_entry root place child part at is folder name = record {
   form = (at.form.0, at.form.1, part, at.form.2, at.form.3, is, name ∙ ap (λ (q : PathView). q ++ part ∷ []) at.form.4);
 }
 
+-- a folder of a level that stands in a place
+pub at_level : (l : Level) (root : PathView) (place child : Place) (part : List ℕ) → IsAt root (HoldsParts l) place
+    → IsLevelName l part → child.folder ≡ place.folder ++ part ∷ [] → child.name ≡ place.name ++ part ∷ []
+    → IsAt root (LevelParts l) child
+at_level level.Module root place child part at is folder name = at_module root place child part at is folder name
+at_level level.Function root place child part at is folder name = at_function root place child part at is folder name
+at_level level.Entry root place child part at is folder name = at_entry root place child part at is folder name
+
 -- ---- which parts stand below which
 
 -- what the first part behind a place is, of an entry below it
@@ -76,6 +90,19 @@ pub in_function : (name : PathView) (part : List ℕ) (rest parts : PathView) �
 in_function name part rest parts form (m, f, k, hm, hf, hk, e) is =
     let h : m ∷ f ∷ k ∷ [] ≡ form.0 ∷ form.1 ∷ part ∷ rest = sym e ∙ is ∙ ap (λ (q : PathView). q ++ part ∷ rest) form.4 in
     let same : k ≡ part = cc in subst (λ (n : List ℕ). IsTrue (is_key n)) same hk
+
+-- the first part behind a place, by levels
+pub in_level : (l : Level) (name : PathView) (part : List ℕ) (rest parts : PathView) → HoldsParts l name
+    → IsEntryParts parts → parts ≡ name ++ part ∷ rest → IsLevelName l part
+in_level level.Module name part rest parts form of is = in_root name part rest parts form of is
+in_level level.Function name part rest parts form of is = in_module name part rest parts form of is
+in_level level.Entry name part rest parts form of is = in_function name part rest parts form of is
+
+-- a place in which folders of a level stand is no entry
+pub level_short : (l : Level) (name : PathView) → HoldsParts l name → length name < 3
+level_short level.Module name form = omega (arith, ap length form)
+level_short level.Function name form = omega (arith, ap length form.2)
+level_short level.Entry name form = omega (arith, ap length form.4)
 
 -- an entry stands below a shorter place by at least one part
 entry_length : (parts : PathView) → IsEntryParts parts → length parts ≡ 3
@@ -203,8 +230,8 @@ under_less name names i item grown parts (inr of) = (item, subst (λ (ns : List 
 -- ---- an entry's item
 
 -- its access was found out
-pub one_pushed : (place : Place) (bytes access : ℕ) (r : Walk) (before after : List Item) (old new : FolderView) → Pushes r place bytes access before after → Measures (HadAccess (place.folder ++ entry_part Access ∷ [])) (measure.Number access) old new → AddsOne place (HasSized place bytes) r before after old new
-one_pushed place bytes access walk.Done before after old new pushes a =
+pub one_pushed : (place : Place) (bytes access : ℕ) (r : Result ⊤ Stop) (before after : List Item) (old new : FolderView) → Pushes r place bytes access before after → Measures (HadAccess (place.folder ++ entry_part Access ∷ [])) (measure.Number access) old new → AddsOne place (HasSized place bytes) r before after old new
+one_pushed place bytes access (Ok done) before after old new pushes a =
     let (item, are, path, bytes_is, access_is) = pushes in
     record {
       added = item ∷ [];
@@ -214,8 +241,8 @@ one_pushed place bytes access walk.Done before after old new pushes a =
       moves = a.moves;
       one = λ t done. (item, refl, (bytes_is, subst (λ (n : ℕ). HadAccess (place.folder ++ entry_part Access ∷ []) n (state old) (moved old new)) (sym access_is) (a.says t access refl)));
     }
-one_pushed place bytes access walk.Fault before after old new pushes a = absurd pushes
-one_pushed place bytes access walk.NoMemory before after old new pushes a = record {
+one_pushed place bytes access (Err stop.Fault) before after old new pushes a = absurd pushes
+one_pushed place bytes access (Err stop.NoMemory) before after old new pushes a = record {
   added = [];
   are = pushes ∙ sym (append-nil before);
   paths = λ x among. absurd (none_among x among);
@@ -225,7 +252,7 @@ one_pushed place bytes access walk.NoMemory before after old new pushes a = reco
 }
 
 -- a number was not found out
-pub one_failed : (place : Place) (Says : Item → State → Trace → Type 0) (Found : ℕ → State → Trace → Type 0) (m : Measure) (r : Walk) (items : List Item) (old new : FolderView) → (r ≡ walk.Fault → m ≡ measure.Fault) → (m ≡ measure.Fault → r ≡ walk.Fault) → (r ≡ walk.Done → ⊥) → Measures Found m old new → AddsOne place Says r items items old new
+pub one_failed : (place : Place) (Says : Item → State → Trace → Type 0) (Found : ℕ → State → Trace → Type 0) (m : Measure) (r : Result ⊤ Stop) (items : List Item) (old new : FolderView) → (r ≡ Err stop.Fault → m ≡ measure.Fault) → (m ≡ measure.Fault → r ≡ Err stop.Fault) → (r ≡ Ok tt → ⊥) → Measures Found m old new → AddsOne place Says r items items old new
 one_failed place Says Found m r items old new to from undone a = record {
   added = [];
   are = sym (append-nil items);
@@ -236,7 +263,7 @@ one_failed place Says Found m r items old new to from undone a = record {
 }
 
 -- its bytes were found out before
-pub one_listed : (place : Place) (names : List Name) (bytes : ℕ) (r : Walk) (before after : List Item) (old mid new : FolderView) → Measures (HadBytes place.folder names) (measure.Number bytes) old mid → AddsOne place (HasSized place bytes) r before after mid new → AddsOne place (HasListed place names) r before after old new
+pub one_listed : (place : Place) (names : List Name) (bytes : ℕ) (r : Result ⊤ Stop) (before after : List Item) (old mid new : FolderView) → Measures (HadBytes place.folder names) (measure.Number bytes) old mid → AddsOne place (HasSized place bytes) r before after mid new → AddsOne place (HasListed place names) r before after old new
 one_listed place names bytes r before after old mid new a b = record {
   added = b.added;
   are = b.are;
@@ -266,7 +293,7 @@ one_listed place names bytes r before after old mid new a b = record {
 
 module _ (root : PathView) where
   -- nothing was added, as nothing is there
-  pub adds_none : (Pre : Type 0) (Of : PathView → Type 0) (r : Walk) (items : List Item) (v : FolderView) → (r ≡ walk.Fault → ⊥) → (r ≡ walk.Done → (parts : PathView) → IsEntryParts parts → Of parts → ⊥) → Adds root Pre Of r items items v v
+  pub adds_none : (Pre : Type 0) (Of : PathView → Type 0) (r : Result ⊤ Stop) (items : List Item) (v : FolderView) → (r ≡ Err stop.Fault → ⊥) → (r ≡ Ok tt → (parts : PathView) → IsEntryParts parts → Of parts → ⊥) → Adds root Pre Of r items items v v
   adds_none Pre Of r items v faultless none = record {
     added = [];
     are = sym (append-nil items);
@@ -277,7 +304,7 @@ module _ (root : PathView) where
   }
 
   -- it wasn't done
-  pub adds_undone : (Pre Pre' : Type 0) (Of Of' : PathView → Type 0) (r : Walk) (before after : List Item) (old new : FolderView) → (r ≡ walk.Done → ⊥) → Adds root Pre Of r before after old new → Adds root Pre' Of' r before after old new
+  pub adds_undone : (Pre Pre' : Type 0) (Of Of' : PathView → Type 0) (r : Result ⊤ Stop) (before after : List Item) (old new : FolderView) → (r ≡ Ok tt → ⊥) → Adds root Pre Of r before after old new → Adds root Pre' Of' r before after old new
   adds_undone Pre Pre' Of Of' r before after old new undone a = record {
     added = a.added;
     are = a.are;
@@ -288,7 +315,7 @@ module _ (root : PathView) where
   }
 
   -- of parts that are told otherwise
-  pub adds_as : (Pre : Type 0) (Of Of' : PathView → Type 0) (r : Walk) (before after : List Item) (old new : FolderView) → ((parts : PathView) → Of parts → Of' parts) → ((parts : PathView) → Of' parts → Of parts) → Adds root Pre Of r before after old new → Adds root Pre Of' r before after old new
+  pub adds_as : (Pre : Type 0) (Of Of' : PathView → Type 0) (r : Result ⊤ Stop) (before after : List Item) (old new : FolderView) → ((parts : PathView) → Of parts → Of' parts) → ((parts : PathView) → Of' parts → Of parts) → Adds root Pre Of r before after old new → Adds root Pre Of' r before after old new
   adds_as Pre Of Of' r before after old new there back a = record {
     added = a.added;
     are = a.are;
@@ -299,7 +326,7 @@ module _ (root : PathView) where
   }
 
   -- one after the other
-  module _ (Pre : Type 0) (Of Of' : PathView → Type 0) (r : Walk) (before between after : List Item) (old mid new : FolderView) (a : Adds root Pre Of walk.Done before between old mid) where
+  module _ (Pre : Type 0) (Of Of' : PathView → Type 0) (r : Result ⊤ Stop) (before between after : List Item) (old mid new : FolderView) (a : Adds root Pre Of (Ok tt) before between old mid) where
     both_paths : (xs : List Item) → ((item : Item) → Contains xs item → IsItemPath item.path) → (item : Item) → Contains (a.added ++ xs) item → IsItemPath item.path
     both_paths xs paths item among = ⊎_elim (λ (l : Contains a.added item). a.paths item l) (λ (x : Contains xs item). paths item x) (Contains-append_cases a.added xs item among)
 
@@ -320,7 +347,7 @@ module _ (root : PathView) where
     }
 
     -- and where the second wasn't done
-    pub adds_stop : (Pre' Pre'' : Type 0) (Of'' : PathView → Type 0) → (r ≡ walk.Done → ⊥) → Adds root Pre' Of' r between after mid new → Adds root Pre'' Of'' r before after old new
+    pub adds_stop : (Pre' Pre'' : Type 0) (Of'' : PathView → Type 0) → (r ≡ Ok tt → ⊥) → Adds root Pre' Of' r between after mid new → Adds root Pre'' Of'' r before after old new
     adds_stop Pre' Pre'' Of'' undone b = record {
       added = a.added ++ b.added;
       are = b.are ∙ ap (λ (xs : List Item). xs ++ b.added) a.are ∙ append_assoc before a.added b.added;
@@ -334,27 +361,27 @@ module _ (root : PathView) where
 
   module _ (name : PathView) (names : List Name) where
     -- no names yet
-    pub adds_start : (items : List Item) (v : FolderView) → Adds root (AreDistinct names) (Under name (take 0 names)) walk.Done items items v v
-    adds_start items v = adds_none (AreDistinct names) (Under name (take 0 names)) walk.Done items v (λ e. cc) (λ d parts form of. omega (arith, of.1.1, length-take 0 names))
+    pub adds_start : (items : List Item) (v : FolderView) → Adds root (AreDistinct names) (Under name (take 0 names)) (Ok tt) items items v v
+    adds_start items v = adds_none (AreDistinct names) (Under name (take 0 names)) (Ok tt) items v (λ e. cc) (λ d parts form of. omega (arith, of.1.1, length-take 0 names))
 
     -- one name more
-    pub adds_more : (i : ℕ) (item : Name) (part : List ℕ) (before between after : List Item) (old mid new : FolderView) → take (i + 1) names ≡ take i names ++ item ∷ [] → i < length names → item ≡ get_or names i item → part ≡ item.part → Adds root (AreDistinct names) (Under name (take i names)) walk.Done before between old mid → Adds root ⊤ (IsBelow (name ++ part ∷ [])) walk.Done between after mid new → Adds root (AreDistinct names) (Under name (take (i + 1) names)) walk.Done before after old new
+    pub adds_more : (i : ℕ) (item : Name) (part : List ℕ) (before between after : List Item) (old mid new : FolderView) → take (i + 1) names ≡ take i names ++ item ∷ [] → i < length names → item ≡ get_or names i item → part ≡ item.part → Adds root (AreDistinct names) (Under name (take i names)) (Ok tt) before between old mid → Adds root ⊤ (IsBelow (name ++ part ∷ [])) (Ok tt) between after mid new → Adds root (AreDistinct names) (Under name (take (i + 1) names)) (Ok tt) before after old new
     adds_more i item part before between after old mid new grown lt is same a b =
         let Before : PathView → Type 0 = Under name (take i names) in
         let This : PathView → Type 0 = IsBelow (name ++ item.part ∷ []) in
-        adds_as (AreDistinct names) (λ parts. Before parts ⊎ This parts) (Under name (take (i + 1) names)) walk.Done before after old new (λ parts of. under_less name names i item grown parts of) (λ parts of. under_more name names i item grown parts of)
-        (adds_then (AreDistinct names) Before This walk.Done before between after old mid new a (λ dist parts of of'. not_before names i item of.0 dist lt is of.1 (part_below name of.0.part item.part parts of.2 of'))
-        (subst (λ (w : List ℕ). Adds root ⊤ (IsBelow (name ++ w ∷ [])) walk.Done between after mid new) same b))
+        adds_as (AreDistinct names) (λ parts. Before parts ⊎ This parts) (Under name (take (i + 1) names)) (Ok tt) before after old new (λ parts of. under_less name names i item grown parts of) (λ parts of. under_more name names i item grown parts of)
+        (adds_then (AreDistinct names) Before This (Ok tt) before between after old mid new a (λ dist parts of of'. not_before names i item of.0 dist lt is of.1 (part_below name of.0.part item.part parts of.2 of'))
+        (subst (λ (w : List ℕ). Adds root ⊤ (IsBelow (name ++ w ∷ [])) (Ok tt) between after mid new) same b))
 
     -- all names
-    pub adds_every : (i : ℕ) (before after : List Item) (old new : FolderView) → take i names ≡ names → Adds root (AreDistinct names) (Under name (take i names)) walk.Done before after old new → Adds root (AreDistinct names) (Under name names) walk.Done before after old new
-    adds_every i before after old new all a = subst (λ (ns : List Name). Adds root (AreDistinct names) (Under name ns) walk.Done before after old new) all a
+    pub adds_every : (i : ℕ) (before after : List Item) (old new : FolderView) → take i names ≡ names → Adds root (AreDistinct names) (Under name (take i names)) (Ok tt) before after old new → Adds root (AreDistinct names) (Under name names) (Ok tt) before after old new
+    adds_every i before after old new all a = subst (λ (ns : List Name). Adds root (AreDistinct names) (Under name ns) (Ok tt) before after old new) all a
 
   -- ---- a listing first
 
   module _ (place : Place) (old mid : FolderView) {Fails : Type 0} (frame : FolderAnswers Fails old mid) (waits : old.told → Waits old mid) where
     -- there are no names
-    pub adds_unlisted : (Pre : Type 0) (Of : PathView → Type 0) (r : Walk) (items : List Item) → (r ≡ walk.Fault → Fails) → (Fails → r ≡ walk.Fault) → (r ≡ walk.Done → ⊥) → Adds root Pre Of r items items old mid
+    pub adds_unlisted : (Pre : Type 0) (Of : PathView → Type 0) (r : Result ⊤ Stop) (items : List Item) → (r ≡ Err stop.Fault → Fails) → (Fails → r ≡ Err stop.Fault) → (r ≡ Ok tt → ⊥) → Adds root Pre Of r items items old mid
     adds_unlisted Pre Of r items to from undone = record {
       added = [];
       are = sym (append-nil items);
@@ -365,7 +392,7 @@ module _ (root : PathView) where
     }
 
     -- there is no such folder
-    pub adds_absent : (items : List Item) → place.folder ≡ below root place.name → (Fails → ⊥) → (old.told → AtSome (state old) (moved old mid) (λ s. is_folder s place.folder ≡ false)) → Adds root ⊤ (IsBelow place.name) walk.Done items items old mid
+    pub adds_absent : (items : List Item) → place.folder ≡ below root place.name → (Fails → ⊥) → (old.told → AtSome (state old) (moved old mid) (λ s. is_folder s place.folder ≡ false)) → Adds root ⊤ (IsBelow place.name) (Ok tt) items items old mid
     adds_absent items folder well gone = record {
       added = [];
       are = sym (append-nil items);
@@ -380,7 +407,7 @@ module _ (root : PathView) where
           true≢false (sym (each before later split) ∙ no_below root place (run (state old) before) (state_each (state old) (moved old mid) before later ok goes.lawful split) folder away parts of));
     }
 
-    module _ (names : List Name) (r : Walk) (before after : List Item) (new : FolderView) (well : Fails → ⊥) (lists : old.told → ListsNames place.folder names (state old) (moved old mid)) where
+    module _ (names : List Name) (r : Result ⊤ Stop) (before after : List Item) (new : FolderView) (well : Fails → ⊥) (lists : old.told → ListsNames place.folder names (state old) (moved old mid)) where
       -- the entry's own item
       pub adds_one : IsAt root IsEntryParts place → AddsOne place (HasListed place names) r before after mid new → Adds root ⊤ (IsBelow place.name) r before after old new
       adds_one at b = record {
@@ -430,3 +457,43 @@ module _ (root : PathView) where
             under_each root place names (state old) (moved old mid) ok first.lawful folder (lists t) part rest parts named e (each_sooner (λ s. is_folder s (below root parts) ≡ true) old mid new first second each))
             seen;
       }
+
+-- ---- stops
+
+err_to : {T U : Type 0} (r : Result T Stop) (e : Stop) → r ≡ Err e → r ≡ Err stop.Fault → ◌≡◌ {A = Result U Stop} (Err e) (Err stop.Fault)
+err_to r e is f = let h : Err e ≡ Err stop.Fault = sym is ∙ f in let same : e ≡ stop.Fault = cc in ap Err same
+
+err_from : {T U : Type 0} (r : Result T Stop) (e : Stop) → r ≡ Err e → ◌≡◌ {A = Result U Stop} (Err e) (Err stop.Fault) → r ≡ Err stop.Fault
+err_from r e is f = let same : e ≡ stop.Fault = cc in is ∙ ap Err same
+
+err_undone : (r : Result ⊤ Stop) (e : Stop) → r ≡ Err e → r ≡ Ok tt → ⊥
+err_undone r e is done = let h : Err e ≡ Ok tt = sym is ∙ done in cc
+
+module _ (root : PathView) where
+  -- there was no memory for a path
+  pub adds_memory : (Pre : Type 0) (Of : PathView → Type 0) (r : Result ⊤ Stop) (items : List Item) (v : FolderView)
+      → IsErrAnd r (λ f. f ≡ stop.NoMemory) → Adds root Pre Of r items items v v
+  adds_memory Pre Of r items v is =
+      subst (λ (x : Result ⊤ Stop). Adds root Pre Of x items items v v) (sym (err_is r stop.NoMemory is))
+      (adds_none root Pre Of (Err stop.NoMemory) items v (λ f. cc) (λ d. cc))
+
+  -- a stop after what was added is handed on
+  pub adds_stopped : (Pre Pre' Pre'' : Type 0) (Of Of' Of'' : PathView → Type 0) (r : Result ⊤ Stop) (e : Stop) (before between after : List Item) (old mid new : FolderView)
+      → IsErrAnd r (λ f. f ≡ e) → Adds root Pre Of (Ok tt) before between old mid → Adds root Pre' Of' (Err e) between after mid new
+      → Adds root Pre'' Of'' r before after old new
+  adds_stopped Pre Pre' Pre'' Of Of' Of'' r e before between after old mid new is a b =
+      subst (λ (x : Result ⊤ Stop). Adds root Pre'' Of'' x before after old new) (sym (err_is r e is))
+      (adds_stop root Pre Of Of' (Err e) before between after old mid new a Pre' Pre'' Of'' (λ d. cc) b)
+
+  module _ (place : Place) (items : List Item) (old mid : FolderView) where
+    -- the names of a folder weren't read
+    pub adds_unread : (Pre : Type 0) (Of : PathView → Type 0) (r : Result ⊤ Stop) (e : Stop) → IsErrAnd r (λ f. f ≡ e)
+        → Lists place.folder (Err e) old mid → Adds root Pre Of r items items old mid
+    adds_unread Pre Of r e is l =
+        let same = err_is r e is in
+        adds_unlisted root place old mid l.frame l.waits Pre Of r items (err_to r e same) (err_from r e same) (err_undone r e same)
+
+    -- there is no such folder
+    pub adds_gone : place.folder ≡ below root place.name → Lists place.folder (Ok None) old mid
+        → Adds root ⊤ (IsBelow place.name) (Ok tt) items items old mid
+    adds_gone folder l = adds_absent root place old mid l.frame l.waits items folder (λ f. cc) l.names

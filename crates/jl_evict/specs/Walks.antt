@@ -1,5 +1,5 @@
 -- What each part of a walk through a cache tells, which makes no move.
-use Rattle.std.specs.Prelude.{◌≡◌, ℕ, List, [], ◌∷◌, ◌++◌, map, Contains, IsTrue}
+use Rattle.std.specs.Prelude.{◌≡◌, ℕ, List, [], ◌∷◌, ◌++◌, map, Contains, IsTrue, Result, Ok, Err, ⊤}
 use Rattle.std.specs.List.{IsDistinct}
 use Rattle.std.specs.Str.{bytes_eq}
 use Rattle.jl_text.specs.Paths.{PathView, text_of}
@@ -12,13 +12,15 @@ use Rattle.jl_folder.specs.Views.{FolderView, FolderAnswers, state, moved}
 use Rattle.jl_entry.specs.declared.names.EntryFile.TheVariants.{Access}
 use Rattle.jl_entry.specs.Names.{IsBelow, below, entry_part}
 use Rattle.jl_rely.specs.Claims.{Moves, Silent}
+use Rattle.jl_clear.specs.declared.levels.Level.{Level}
+use Rattle.jl_clear.specs.declared.levels.Level.TheVariants as level
+use Rattle.jl_clear.specs.declared.stop.Stop.{Stop}
+use Rattle.jl_clear.specs.declared.stop.Stop.TheVariants as stop
 use Rattle.jl_evict.specs.declared.item.Item.{Item}
 use Rattle.jl_evict.specs.declared.measure.Measure.{Measure}
 use Rattle.jl_evict.specs.declared.measure.Measure.TheVariants as measure
-use Rattle.jl_evict.specs.declared.walk.Walk.{Walk}
-use Rattle.jl_evict.specs.declared.walk.Walk.TheVariants as walk
 use Rattle.jl_evict.specs.declared.walk.Place.{Place}
-use Rattle.jl_evict.specs.Items.{IsItemPath, size_at, HadBytes, HadAccess, AreSeen}
+use Rattle.jl_evict.specs.Items.{IsEntryParts, IsItemPath, size_at, HadBytes, HadAccess, AreSeen}
 
 -- ---- numbers
 
@@ -51,11 +53,23 @@ IsModuleParts parts = (m : List ℕ) × IsTrue (is_name m) × (parts ≡ m ∷ [
 abbrev pub IsFunctionParts : PathView → Type 0
 IsFunctionParts parts = (m f : List ℕ) × IsTrue (is_name m) × IsTrue (is_name f) × (parts ≡ m ∷ f ∷ [])
 
+-- the parts of a folder of this level
+abbrev pub LevelParts : Level → PathView → Type 0
+LevelParts level.Module parts = IsModuleParts parts
+LevelParts level.Function parts = IsFunctionParts parts
+LevelParts level.Entry parts = IsEntryParts parts
+
+-- and of the folder in which such stand
+abbrev pub HoldsParts : Level → PathView → Type 0
+HoldsParts level.Module parts = IsRootParts parts
+HoldsParts level.Function parts = IsModuleParts parts
+HoldsParts level.Entry parts = IsFunctionParts parts
+
 -- an item with this path, these bytes and this access is the last now, or there was no memory
-abbrev pub Pushes : Walk → Place → (bytes access : ℕ) → List Item → List Item → Type 0
-Pushes walk.Done place bytes access before after = (item : Item) × (after ≡ before ++ item ∷ []) × (item.path ≡ text_of place.name) × (item.bytes ≡ bytes) × (item.access ≡ access)
-Pushes walk.Fault place bytes access before after = ⊥
-Pushes walk.NoMemory place bytes access before after = after ≡ before
+abbrev pub Pushes : Result ⊤ Stop → Place → (bytes access : ℕ) → List Item → List Item → Type 0
+Pushes (Ok done) place bytes access before after = (item : Item) × (after ≡ before ++ item ∷ []) × (item.path ≡ text_of place.name) × (item.bytes ≡ bytes) × (item.access ≡ access)
+Pushes (Err stop.Fault) place bytes access before after = ⊥
+Pushes (Err stop.NoMemory) place bytes access before after = after ≡ before
 
 -- the place is this folder below the root
 pub record IsAt (root : PathView) (Form : PathView → Type 0) (place : Place) : Type 0 where
@@ -79,19 +93,19 @@ abbrev pub HasListed : Place → List Name → Item → State → Trace → Type
 HasListed place names item s moves = HadBytes place.folder names item.bytes s moves × HadAccess (place.folder ++ entry_part Access ∷ []) item.access s moves
 
 -- no own move, and a fault rose exactly where it is answered; the place's item alone was added, if any, and it was where it is done, and then tells this
-pub record AddsOne (place : Place) (Says : Item → State → Trace → Type 0) (answer : Walk) (before after : List Item) (old new : FolderView) : Type 0 where
+pub record AddsOne (place : Place) (Says : Item → State → Trace → Type 0) (answer : Result ⊤ Stop) (before after : List Item) (old new : FolderView) : Type 0 where
   pub added : List Item
   pub are : after ≡ before ++ added
   pub paths : (item : Item) → Contains added item → item.path ≡ text_of place.name
-  pub frame : FolderAnswers (answer ≡ walk.Fault) old new
+  pub frame : FolderAnswers (answer ≡ Err stop.Fault) old new
   pub moves : old.told → Moves Silent old new
-  pub one : old.told → answer ≡ walk.Done → (item : Item) × (added ≡ item ∷ []) × Says item (state old) (moved old new)
+  pub one : old.told → answer ≡ Ok tt → (item : Item) × (added ≡ item ∷ []) × Says item (state old) (moved old new)
 
 -- no own move, and a fault rose exactly where it is answered; items were added, each with a path of an item, and where it is done they are those that were seen among the entries of this form
-pub record Adds (root : PathView) (Pre : Type 0) (Of : PathView → Type 0) (answer : Walk) (before after : List Item) (old new : FolderView) : Type 0 where
+pub record Adds (root : PathView) (Pre : Type 0) (Of : PathView → Type 0) (answer : Result ⊤ Stop) (before after : List Item) (old new : FolderView) : Type 0 where
   pub added : List Item
   pub are : after ≡ before ++ added
   pub paths : (item : Item) → Contains added item → IsItemPath item.path
-  pub frame : FolderAnswers (answer ≡ walk.Fault) old new
+  pub frame : FolderAnswers (answer ≡ Err stop.Fault) old new
   pub moves : old.told → Moves Silent old new
-  pub found : old.told → answer ≡ walk.Done → IsState (state old) → Pre → AreSeen root Of added (state old) (moved old new)
+  pub found : old.told → answer ≡ Ok tt → IsState (state old) → Pre → AreSeen root Of added (state old) (moved old new)

@@ -7,7 +7,8 @@ use crate::item::Item;
 use jl_quota::Limits;
 use std::cmp::Ordering;
 
-// The item that goes first is the one that was used less lately; of two, the one whose path comes first.
+// The item that goes first is the one that was used less lately;
+// of two, the one whose path comes first.
 fn in_order(a: &Item, b: &Item) -> Ordering
     ensures { result ≡ item_cmp a.now b.now }
 {
@@ -65,7 +66,8 @@ struct Excess {
     items: u128,
 }
 
-// Whether nothing more has to go, where so many items went, with so many bytes, and this one is next.
+// Whether nothing more has to go, where so many items went, with so many bytes,
+// and this one is next.
 fn may_stop(
     excess: Excess,
     bytes: u128,
@@ -74,7 +76,8 @@ fn may_stop(
     age: Option<u64>,
     now: u64,
 ) -> bool
-    ensures { IsTrue result ↔ ((excess.bytes ≤ bytes) × (excess.items ≤ count) × IsSpared age now next.now) }
+    ensures { IsTrue result
+        ↔ ((excess.bytes ≤ bytes) × (excess.items ≤ count) × IsSpared age now next.now) }
 {
     if bytes < excess.bytes {
         return false;
@@ -103,7 +106,8 @@ fn count_chosen(items: &[Item], limits: &Limits, now: u64) -> usize
     items.len()
 }
 
-/// Puts the items in the order in which they go, and answers how many of the first go: as few as leave no more than the limits. Takes no memory.
+/// Puts the items in the order in which they go, and answers how many of the first go:
+/// as few as leave no more than the limits. Takes no memory.
 pub fn choose(items: &mut Vec<Item>, limits: &Limits, now: u64) -> usize
     ensures permutation { IsPermutation items.old.items items.new.items }
     ensures order { IsSorted item_cmp items.new.items }

@@ -42,7 +42,8 @@ fn file_size<F: Folder>(folder: &mut F, path: &Path) -> Measure
 
 fn name_size<F: Folder>(alloc: Global, folder: &mut F, entry: &Path, part: &str) -> Measure
     requires { IsTrue (is_part part.now) }
-    ensures { Measures (HadSize (entry.now ++ part.now ∷ [])) result (F.view folder.old) (F.view folder.new) }
+    ensures { Measures (HadSize (entry.now ++ part.now ∷ [])) result
+        (F.view folder.old) (F.view folder.new) }
 {
     match entry.join(alloc, part) {
         Ok(path) => file_size(folder, &path),
@@ -58,7 +59,8 @@ pub(crate) fn entry_bytes<F: Folder>(
     names: &[Name],
 ) -> Measure
     requires { All (λ n. IsTrue (is_part n.part)) names.now }
-    ensures { Measures (HadBytes entry.now names.now) result (F.view folder.old) (F.view folder.new) }
+    ensures { Measures (HadBytes entry.now names.now) result
+        (F.view folder.old) (F.view folder.new) }
 {
     let mut sum: u64 = 0;
     for name in names {
@@ -93,7 +95,8 @@ fn read_moment<F: Folder>(alloc: Global, folder: &mut F, path: &Path) -> Measure
 
 /// When an entry was last used; 0 where its file doesn't tell.
 pub(crate) fn entry_access<F: Folder>(alloc: Global, folder: &mut F, entry: &Path) -> Measure
-    ensures { Measures (HadAccess (entry.now ++ entry_part EntryFile.Access ∷ [])) result (F.view folder.old) (F.view folder.new) }
+    ensures { Measures (HadAccess (entry.now ++ entry_part EntryFile.Access ∷ [])) result
+        (F.view folder.old) (F.view folder.new) }
 {
     match entry.join(alloc, "last_access") {
         Ok(path) => read_moment(alloc, folder, &path),

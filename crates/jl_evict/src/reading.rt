@@ -8,7 +8,8 @@ ghost use Rattle.jl_evict.specs.Reducing.{HavePaths, AreRead, WereRead};
 ghost use Rattle.jl_evict.specs.Walks.{IsAt, IsRootParts};
 
 use crate::item::Item;
-use crate::walk::{Place, Walk, add_root};
+use crate::walk::{Place, add_folders};
+use jl_clear::{Level, Stop};
 use jl_entry::root;
 use jl_folder::{Folder, Path};
 use std::alloc::{AllocError, Global};
@@ -31,21 +32,26 @@ fn root_place(alloc: Global, location: &Path) -> Result<Place, AllocError>
 
 /// The items of a cache, in no order.
 pub fn items<F: Folder>(alloc: Global, folder: &mut F, location: &Path) -> ItemsRead
-    ensures frame { FolderAnswers (result ≡ ItemsRead.FolderFault) (F.view folder.old) (F.view folder.new) }
+    ensures frame { FolderAnswers (result ≡ ItemsRead.FolderFault)
+        (F.view folder.old) (F.view folder.new) }
     ensures waits { (F.view folder.old).told → Waits (F.view folder.old) (F.view folder.new) }
     ensures paths { HavePaths result }
     // Each stood at some state of the call, and what stands throughout is one of them.
-    ensures seen { (F.view folder.old).told → WereRead (root_of location.now) result (state (F.view folder.old)) (moved (F.view folder.old) (F.view folder.new)) }
+    ensures seen { (F.view folder.old).told
+        → WereRead (root_of location.now) result (state (F.view folder.old))
+        (moved (F.view folder.old) (F.view folder.new)) }
     // Alone, they are those of the state.
-    ensures alone { (F.view folder.old).told → IsLone (F.view folder.old).token (moved (F.view folder.old) (F.view folder.new)) → AreRead (root_of location.now) (state (F.view folder.old)) result }
+    ensures alone { (F.view folder.old).told
+        → IsLone (F.view folder.old).token (moved (F.view folder.old) (F.view folder.new))
+        → AreRead (root_of location.now) (state (F.view folder.old)) result }
 {
     let Ok(place) = root_place(alloc, location) else {
         return ItemsRead::NoMemory;
     };
     let mut items = Vec::new(alloc);
-    match add_root(alloc, folder, &place, &mut items) {
-        Walk::Done => ItemsRead::Items(items),
-        Walk::Fault => ItemsRead::FolderFault,
-        Walk::NoMemory => ItemsRead::NoMemory,
+    match add_folders(alloc, folder, &place, Level::Module, &mut items) {
+        Ok(()) => ItemsRead::Items(items),
+        Err(Stop::Fault) => ItemsRead::FolderFault,
+        Err(Stop::NoMemory) => ItemsRead::NoMemory,
     }
 }

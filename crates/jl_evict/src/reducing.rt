@@ -7,7 +7,8 @@ ghost use Rattle.jl_rely.specs.Claims.{Anywhere};
 ghost use Rattle.jl_clear.specs.Clearing.{Clears};
 ghost use Rattle.jl_evict.specs.Choosing.{bytes_of};
 ghost use Rattle.jl_evict.specs.Items.{IsItemPath, held};
-ghost use Rattle.jl_evict.specs.Reducing.{ArePaths, IsOf, Chosen, clear_of, IsReportOf, TakesFrom, Reduces};
+ghost use Rattle.jl_evict.specs.Reducing.{ArePaths, IsOf, Chosen, clear_of, IsReportOf};
+ghost use Rattle.jl_evict.specs.Reducing.{TakesFrom, Reduces};
 
 use crate::choosing::choose;
 use crate::item::Item;
@@ -52,7 +53,8 @@ fn read_path(alloc: Global, item: &Item) -> Option<Path>
 // Takes away an item: the files of its entry, and the folder.
 fn clear_one<F: Folder>(alloc: Global, folder: &mut F, root: &Path, item: &Item) -> Clear
     requires { IsItemPath item.now.path }
-    ensures { Clears root.now Anywhere (IsOf root.now item.now) (IsOf root.now item.now) (IsOf root.now item.now) result (F.view folder.old) (F.view folder.new) }
+    ensures { Clears root.now Anywhere (IsOf root.now item.now) (IsOf root.now item.now)
+        (IsOf root.now item.now) result (F.view folder.old) (F.view folder.new) }
 {
     let Some(name) = read_path(alloc, item) else {
         return Clear::NoMemory;
@@ -65,7 +67,8 @@ fn clear_one<F: Folder>(alloc: Global, folder: &mut F, root: &Path, item: &Item)
 
 fn clear_chosen<F: Folder>(alloc: Global, folder: &mut F, root: &Path, chosen: &[Item]) -> Clear
     requires { ArePaths chosen.now }
-    ensures { Clears root.now Anywhere (Chosen root.now chosen.now) (Chosen root.now chosen.now) (Chosen root.now chosen.now) result (F.view folder.old) (F.view folder.new) }
+    ensures { Clears root.now Anywhere (Chosen root.now chosen.now) (Chosen root.now chosen.now)
+        (Chosen root.now chosen.now) result (F.view folder.old) (F.view folder.new) }
 {
     for item in chosen {
         match clear_one(alloc, folder, root, item) {
@@ -90,7 +93,9 @@ fn held_bytes(items: &[Item]) -> u64
 // Takes away the chosen items, and reports them.
 fn report<F: Folder>(alloc: Global, folder: &mut F, root: &Path, chosen: &[Item]) -> Reduced
     requires { ArePaths chosen.now }
-    ensures clears { Clears root.now Anywhere (Chosen root.now chosen.now) (Chosen root.now chosen.now) (Chosen root.now chosen.now) (clear_of result) (F.view folder.old) (F.view folder.new) }
+    ensures clears { Clears root.now Anywhere (Chosen root.now chosen.now)
+        (Chosen root.now chosen.now) (Chosen root.now chosen.now) (clear_of result)
+        (F.view folder.old) (F.view folder.new) }
     ensures reports { IsReportOf chosen.now result }
 {
     match clear_chosen(alloc, folder, root, chosen) {
@@ -113,14 +118,16 @@ fn reduce<F: Folder>(
     now: u64,
 ) -> Reduced
     requires { ArePaths items.items }
-    ensures { TakesFrom root.now items.items limits.now now result (F.view folder.old) (F.view folder.new) }
+    ensures { TakesFrom root.now items.items limits.now now result
+        (F.view folder.old) (F.view folder.new) }
 {
     let mut items = items;
     let count = choose(&mut items, limits, now);
     report(alloc, folder, root, &items.as_slice()[..count])
 }
 
-/// Takes away the items that a cache holds beyond its limits, those first that were used least lately.
+/// Takes away the items that a cache holds beyond its limits, those first that were used
+/// least lately.
 pub fn reduce_size<F: Folder>(
     alloc: Global,
     folder: &mut F,
@@ -128,8 +135,11 @@ pub fn reduce_size<F: Folder>(
     limits: &Limits,
     now: u64,
 ) -> Reduced
-    ensures frame { FolderAnswers (result ≡ Reduced.FolderFault) (F.view folder.old) (F.view folder.new) }
-    ensures reduces { (F.view folder.old).told → Reduces (root_of location.now) limits.now now result (F.view folder.old) (F.view folder.new) }
+    ensures frame { FolderAnswers (result ≡ Reduced.FolderFault)
+        (F.view folder.old) (F.view folder.new) }
+    ensures reduces { (F.view folder.old).told
+        → Reduces (root_of location.now) limits.now now result
+        (F.view folder.old) (F.view folder.new) }
 {
     let Ok(path) = root(alloc, location) else {
         return Reduced::NoMemory;

@@ -1,31 +1,32 @@
-use Rattle.std.proofs.Common.{◌∷◌, [], subst}
-use Rattle.jl_text.specs.Paths.{PathView}
+use Rattle.std.proofs.Common.{◌∷◌, []}
 use Rattle.jl_entry.specs.Names.{IsBelow, below, root_of}
-use Rattle.jl_rely.specs.Claims.{Anywhere}
 use Rattle.jl_rely.proofs.Seen.{told_state}
 use Rattle.jl_clear.specs.declared.removing.Clear.TheVariants.{NoMemory}
-use Rattle.jl_clear.specs.Clearing.{Clears}
 use Rattle.jl_clear.proofs.Paths.{below_more}
-use Rattle.jl_clear.proofs.Parts.{clears_none}
-use Rattle.jl_clear.proofs.Claims.{claims}
+use Rattle.jl_clear.proofs.Claims.{claims, claims_below, not_begun}
 use Rattle.jl_clear.proofs.clear.clear_function.Goals as goal
 
-pub clear_function_folder-requires : goal.clear_function_folder-requires
-clear_function_folder-requires g c = (root_of c.args.location.now, (c.args.«module».now, c.args.name.now, c.requires.module_name, c.requires.function_name, c.in-Ok.ensures))
-
+-- there was no memory for the path
 pub returns-in_default : goal.returns-in_default
 returns-in_default g c =
     let root = root_of c.args.location.now in
+    let parts = c.args.«module».now ∷ c.args.name.now ∷ [] in
     let v = g.F.Folder.view c.args.folder.now in
-    let a = clears_none root Anywhere (IsBelow (below root (c.args.«module».now ∷ c.args.name.now ∷ []))) (IsBelow (below root (c.args.«module».now ∷ c.args.name.now ∷ []))) (IsBelow (below root (c.args.«module».now ∷ c.args.name.now ∷ []))) NoMemory v (λ f. cc) (λ done. cc) (λ done. cc) in
-    record { frame = a.frame; clears = λ t. claims root (IsBelow (below root (c.args.«module».now ∷ c.args.name.now ∷ []))) NoMemory v v a t (told_state v (g.met.F.Folder.lawful c.args.folder.now t)) (λ p of. below_more root (c.args.«module».now ∷ c.args.name.now ∷ []) p of) }
+    let a = not_begun root (IsBelow (below root parts)) v in
+    record {
+      frame = a.frame;
+      clears = λ t. claims root (IsBelow (below root parts)) NoMemory v v a t (told_state v (g.met.F.Folder.lawful c.args.folder.now t)) (λ p of. below_more root parts p of);
+    }
 
+-- the folder at these parts was cleared
 pub returns : goal.returns
 returns g c =
     let root = root_of c.args.location.now in
-    let v = g.F.Folder.view in
-    let a = subst (λ (p : PathView). Clears root Anywhere (IsBelow p) (IsBelow p) (IsBelow p) c.clear_function_folder.result (v c.args.folder.now) (v c.clear_function_folder.new.folder)) c.in-Ok.ensures (c.clear_function_folder.ensures root (c.args.«module».now, c.args.name.now, c.requires.module_name, c.requires.function_name, c.in-Ok.ensures)) in
+    let parts = c.args.«module».now ∷ c.args.name.now ∷ [] in
+    let old = g.F.Folder.view c.args.folder.now in
+    let new = g.F.Folder.view c.clear_at.new.folder in
+    let a = c.clear_at.ensures root (c.args.«module».now, c.args.name.now, c.requires.module_name, c.requires.function_name, c.in-Ok.ensures) in
     record {
       frame = a.frame;
-      clears = λ t. claims root (IsBelow (below root (c.args.«module».now ∷ c.args.name.now ∷ []))) c.clear_function_folder.result (v c.args.folder.now) (v c.clear_function_folder.new.folder) a t (told_state (v c.args.folder.now) (g.met.F.Folder.lawful c.args.folder.now t)) (λ p of. below_more root (c.args.«module».now ∷ c.args.name.now ∷ []) p of);
+      clears = λ t. claims_below root parts c.in-Ok.function c.clear_at.result old new c.in-Ok.ensures a t (told_state old (g.met.F.Folder.lawful c.args.folder.now t));
     }

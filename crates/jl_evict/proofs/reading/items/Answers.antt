@@ -1,73 +1,71 @@
-use Rattle.std.proofs.Common.{refl, subst}
+use Rattle.std.proofs.Common.{subst}
 use Rattle.std.specs.Prelude.{⊤}
 use Rattle.jl_text.specs.Paths.{PathView}
-use Rattle.jl_folder.proofs.Frames.{answers_as, answers_none}
-use Rattle.jl_folder.proofs.ReadingLemmas.{waits_none}
 use Rattle.jl_entry.specs.Names.{IsBelow, root_of}
 use Rattle.jl_rely.proofs.Seen.{told_state}
-use Rattle.jl_evict.specs.declared.walk.Walk.TheVariants as walk
 use Rattle.jl_evict.specs.Walks.{Adds}
-use Rattle.jl_evict.proofs.ReduceLemmas.{read_waits, read_paths, read_seen, read_alone}
+use Rattle.jl_evict.proofs.ReduceLemmas.{read_waits, read_seen, read_alone}
 use Rattle.jl_evict.proofs.reading.items.Goals as goal
 
-pub returns-in-Done : goal.returns-in-Done
-returns-in-Done g c =
-    let v = g.F.Folder.view in
-    let root = root_of c.args.location.now in
-    let before = c.new-items.result.items in
-    let after = c.add_root.new.items.items in
-    let old = v c.args.folder.now in
-    let new = v c.add_root.new.folder in
-    let a = subst (λ (p : PathView). Adds root ⊤ (IsBelow p) walk.Done before after old new) c.in-Ok.ensures.form (c.in-Done.ensures root c.in-Ok.ensures) in
-    record {
-      frame = answers_as old new a.frame (λ e. cc) (λ e. cc);
-      waits = read_waits root walk.Done before after old new a;
-      paths = read_paths root walk.Done before after old new a c.new-items.ensures.items;
-      seen = λ t. read_seen root walk.Done before after old new a c.new-items.ensures.items t refl (told_state old (g.met.F.Folder.lawful c.args.folder.now t));
-      alone = λ t lone. read_alone root walk.Done before after old new a c.new-items.ensures.items t refl lone (told_state old (g.met.F.Folder.lawful c.args.folder.now t));
-    }
+-- ---- the walk ended
 
-pub returns-in-Fault : goal.returns-in-Fault
-returns-in-Fault g c =
-    let v = g.F.Folder.view in
+pub returns-in-Ok-add_folders-clause-waits : goal.returns-in-Ok-add_folders-clause-waits
+returns-in-Ok-add_folders-clause-waits g c =
     let root = root_of c.args.location.now in
+    let old = g.F.Folder.view c.args.folder.now in
+    let new = g.F.Folder.view c.add_folders.new.folder in
     let before = c.new-items.result.items in
-    let after = c.add_root.new.items.items in
-    let old = v c.args.folder.now in
-    let new = v c.add_root.new.folder in
-    let a = subst (λ (p : PathView). Adds root ⊤ (IsBelow p) walk.Fault before after old new) c.in-Ok.ensures.form (c.in-Fault.ensures root c.in-Ok.ensures) in
-    record {
-      frame = answers_as old new a.frame (λ e. refl) (λ e. refl);
-      waits = read_waits root walk.Fault before after old new a;
-      paths = tt;
-      seen = λ t. tt;
-      alone = λ t lone. tt;
-    }
+    let after = c.add_folders.new.items.items in
+    let r = c.add_folders.result in
+    read_waits root r before after old new
+    (subst (λ (p : PathView). Adds root ⊤ (IsBelow p) r before after old new) c.in-Ok.ensures.form (c.add_folders.ensures root c.in-Ok.ensures))
 
-pub returns : goal.returns
-returns g c =
-    let v = g.F.Folder.view in
+-- what it added was seen
+pub returns-in-Ok-add_folders-clause-seen : goal.returns-in-Ok-add_folders-clause-seen
+returns-in-Ok-add_folders-clause-seen g c = λ t.
     let root = root_of c.args.location.now in
+    let old = g.F.Folder.view c.args.folder.now in
+    let new = g.F.Folder.view c.add_folders.new.folder in
     let before = c.new-items.result.items in
-    let after = c.add_root.new.items.items in
-    let old = v c.args.folder.now in
-    let new = v c.add_root.new.folder in
-    let a = subst (λ (p : PathView). Adds root ⊤ (IsBelow p) walk.NoMemory before after old new) c.in-Ok.ensures.form (c.in-NoMemory.ensures root c.in-Ok.ensures) in
-    record {
-      frame = answers_as old new a.frame (λ e. cc) (λ e. cc);
-      waits = read_waits root walk.NoMemory before after old new a;
-      paths = tt;
-      seen = λ t. tt;
-      alone = λ t lone. tt;
-    }
+    let after = c.add_folders.new.items.items in
+    let r = c.add_folders.result in
+    read_seen root r before after old new
+    (subst (λ (p : PathView). Adds root ⊤ (IsBelow p) r before after old new) c.in-Ok.ensures.form (c.add_folders.ensures root c.in-Ok.ensures))
+    c.new-items.ensures.items t c.in-Ok-add_folders.is (told_state old (g.met.F.Folder.lawful c.args.folder.now t))
 
-pub returns-in_default : goal.returns-in_default
-returns-in_default g c =
-    let v = g.F.Folder.view c.args.folder.now in
-    record {
-      frame = answers_as v v (answers_none v) (λ e. cc) (λ f. absurd f);
-      waits = λ t. waits_none v v refl refl;
-      paths = tt;
-      seen = λ t. tt;
-      alone = λ t lone. tt;
-    }
+-- and alone, it is what stands there
+pub returns-in-Ok-add_folders-clause-alone : goal.returns-in-Ok-add_folders-clause-alone
+returns-in-Ok-add_folders-clause-alone g c = λ t lone.
+    let root = root_of c.args.location.now in
+    let old = g.F.Folder.view c.args.folder.now in
+    let new = g.F.Folder.view c.add_folders.new.folder in
+    let before = c.new-items.result.items in
+    let after = c.add_folders.new.items.items in
+    let r = c.add_folders.result in
+    read_alone root r before after old new
+    (subst (λ (p : PathView). Adds root ⊤ (IsBelow p) r before after old new) c.in-Ok.ensures.form (c.add_folders.ensures root c.in-Ok.ensures))
+    c.new-items.ensures.items t c.in-Ok-add_folders.is lone (told_state old (g.met.F.Folder.lawful c.args.folder.now t))
+
+-- ---- the walk stopped
+
+pub returns-in-Err-Fault-clause-waits : goal.returns-in-Err-Fault-clause-waits
+returns-in-Err-Fault-clause-waits g c =
+    let root = root_of c.args.location.now in
+    let old = g.F.Folder.view c.args.folder.now in
+    let new = g.F.Folder.view c.add_folders.new.folder in
+    let before = c.new-items.result.items in
+    let after = c.add_folders.new.items.items in
+    let r = c.add_folders.result in
+    read_waits root r before after old new
+    (subst (λ (p : PathView). Adds root ⊤ (IsBelow p) r before after old new) c.in-Ok.ensures.form (c.add_folders.ensures root c.in-Ok.ensures))
+
+pub returns-clause-waits : goal.returns-clause-waits
+returns-clause-waits g c =
+    let root = root_of c.args.location.now in
+    let old = g.F.Folder.view c.args.folder.now in
+    let new = g.F.Folder.view c.add_folders.new.folder in
+    let before = c.new-items.result.items in
+    let after = c.add_folders.new.items.items in
+    let r = c.add_folders.result in
+    read_waits root r before after old new
+    (subst (λ (p : PathView). Adds root ⊤ (IsBelow p) r before after old new) c.in-Ok.ensures.form (c.add_folders.ensures root c.in-Ok.ensures))

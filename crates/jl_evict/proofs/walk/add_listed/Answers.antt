@@ -1,5 +1,5 @@
-use Rattle.std.proofs.Common.{refl}
-use Rattle.jl_evict.specs.declared.walk.Walk.TheVariants as walk
+use Rattle.std.proofs.Common.{Err, refl}
+use Rattle.jl_clear.specs.declared.stop.Stop.TheVariants as stop
 use Rattle.jl_evict.specs.declared.measure.Measure.TheVariants as measure
 use Rattle.jl_evict.specs.Items.{HadBytes}
 use Rattle.jl_evict.specs.Walks.{HasListed}
@@ -14,9 +14,9 @@ returns-in-Number g c =
 pub returns-in-Fault : goal.returns-in-Fault
 returns-in-Fault g c =
     let v = g.F.Folder.view in
-    one_failed c.args.place.now (HasListed c.args.place.now c.args.names.now) (HadBytes c.args.place.now.folder c.args.names.now) measure.Fault walk.Fault c.args.items.now.items (v c.args.folder.now) (v c.entry_bytes.new.folder) (λ e. refl) (λ e. refl) (λ e. cc) c.in-Fault.ensures
+    one_failed c.args.place.now (HasListed c.args.place.now c.args.names.now) (HadBytes c.args.place.now.folder c.args.names.now) measure.Fault (Err stop.Fault) c.args.items.now.items (v c.args.folder.now) (v c.entry_bytes.new.folder) (λ e. refl) (λ e. refl) (λ e. cc) c.in-Fault.ensures
 
 pub returns-in-NoMemory : goal.returns-in-NoMemory
 returns-in-NoMemory g c =
     let v = g.F.Folder.view in
-    one_failed c.args.place.now (HasListed c.args.place.now c.args.names.now) (HadBytes c.args.place.now.folder c.args.names.now) measure.NoMemory walk.NoMemory c.args.items.now.items (v c.args.folder.now) (v c.entry_bytes.new.folder) (λ e. cc) (λ e. cc) (λ e. cc) c.in-NoMemory.ensures
+    one_failed c.args.place.now (HasListed c.args.place.now c.args.names.now) (HadBytes c.args.place.now.folder c.args.names.now) measure.NoMemory (Err stop.NoMemory) c.args.items.now.items (v c.args.folder.now) (v c.entry_bytes.new.folder) (λ e. cc) (λ e. cc) (λ e. cc) c.in-NoMemory.ensures
