@@ -10,7 +10,7 @@ use Rattle.jl_folder.specs.declared.moves.Place.TheVariants.{Folder, File}
 use Rattle.jl_folder.specs.declared.listing.Name.{Name}
 use Rattle.jl_folder.specs.State.{State, IsState, Trace, AtSome, AtEach, IsTrace, place_at, is_folder, is_file, is_folder_place, is_file_place, run}
 use Rattle.jl_folder.specs.Views.{FolderView, state, moved}
-use Rattle.jl_folder.specs.Listing.{Stands, ListsNames}
+use Rattle.jl_folder.specs.Listing.{StandsRight, ListsNames}
 use Rattle.jl_folder.specs.Calls.{Waits}
 use Rattle.jl_folder.proofs.Frames.{answers_next, answers_as}
 use Rattle.jl_entry.specs.Names.{IsStoreName, IsStoreFolder, IsBelow}
@@ -218,7 +218,7 @@ module _ (root folder : PathView) (Form : List ℕ → Type 0) (names : List Nam
         let parts = lone_parts old mid new first (b.moves t').went lone in
         let same = waits_alone old mid (l.waits t) parts.0 in
         let none = no_moves old mid (l.waits t) parts.0 in
-        let has : HasAll folder names (state old) = λ name stands. (l.names t).every name (at_each (state old) (λ s. Stands s folder name) (moved old mid) none stands) in
+        let has : HasAll folder names (state old) = λ name stands. (l.names t).every name (at_each (state old) (λ s. StandsRight s folder name) (moved old mid) none stands) in
         b.alone t' done (state_new old mid first ok) parts.1 (subst (HasAll folder names) (sym same) has) p g store (subst (HasOnly root p) (sym same) only);
   }
 

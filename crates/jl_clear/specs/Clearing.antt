@@ -4,7 +4,7 @@ use Rattle.jl_text.specs.Paths.{PathView, is_fixed}
 use Rattle.jl_folder.specs.declared.listing.Name.{Name}
 use Rattle.jl_folder.specs.State.{State, IsState, place_at, node_at, is_folder}
 use Rattle.jl_folder.specs.Views.{FolderView, FolderAnswers, state, moved}
-use Rattle.jl_folder.specs.Listing.{Stands}
+use Rattle.jl_folder.specs.Listing.{StandsRight}
 use Rattle.jl_entry.specs.Names.{IsStoreFolder, IsBelow, IsKeyName}
 use Rattle.jl_rely.specs.Steps.{IsLone}
 use Rattle.jl_rely.specs.Claims.{Moves, Anywhere}

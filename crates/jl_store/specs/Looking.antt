@@ -1,5 +1,5 @@
 -- What a look into the cache tells, whatever others do.
-use Rattle.std.specs.Prelude.{◌≡◌, ◌≢◌, ◌≤◌, ◌⊎◌, ℕ, false, List, [], ◌∷◌, length, Some, ⊤}
+use Rattle.std.specs.Prelude.{◌≡◌, ◌≢◌, ◌≤◌, ◌⊎◌, ℕ, false, List, [], ◌∷◌, ◌++◌, length, Some, ⊤}
 use Rattle.jl_text.specs.Paths.{PathView}
 use Rattle.jl_value.specs.Tree.{Tree}
 use Rattle.jl_value.specs.Form.{tree_of}
