@@ -13,6 +13,8 @@ pub mod Parts
 pub mod Publishing
 pub mod Reading
 pub mod Storing
+pub mod Stretch
+pub mod Task
 pub mod Trust
 pub mod Warned
 pub mod Warnings

@@ -32,6 +32,8 @@ ghost use Rattle.jl_store.specs.Warned.{IsOrderly, Warns, WarnsOfOthers};
 ghost use Rattle.jl_store.specs.Done.{OfKeeping, PartDone, KeepsOrWarns, AnswersOrWarns, DoesOrWarns};
 ghost use Rattle.jl_store.specs.Parts.{WarnsFrom, HasFunction, HasFolder, keep_warns, check_warns};
 ghost use Rattle.jl_store.specs.Trust.{IsTrusted};
+ghost use Rattle.jl_store.specs.Stretch.{point};
+ghost use Rattle.jl_store.specs.Task.{HasFound, HasKept, HasAnswered, AnswerDid, IfAnswered, TaskDid};
 
 use crate::answer::Keep;
 use crate::checking::check_code;
@@ -141,6 +143,11 @@ fn found<F: Folder, H: Host>(
     ensures alone { (F.view folder.old).told → IsLone (F.view folder.old).token (moved (F.view folder.old) (F.view folder.new)) → IsReadyToTouch (entry_in memory.now name.now key.now.0) (state (F.view folder.old)) → (Rose (F.view folder.old).faults (F.view folder.new).faults → ⊥) → result ≡ Cached.Hit value →
         (moment : ℕ) × IsPublished (last_of (entry_in memory.now name.now key.now.0) EntryFile.Access) (temp_of (entry_in memory.now name.now key.now.0) (F.view folder.old).token EntryFile.Access) (access_text moment) (state (F.view folder.old)) (state (F.view folder.new))
         × ((H.view host.old).told → moment ≡ moment_of (H.view host.old).moments) }
+    ensures did { (F.view folder.old).told → result ≡ Cached.Hit value
+        → (c : List ℕ) (n : ℕ) (ps : Members) (calls : ℕ) → key.now.0 ≡ key_of ps
+        → HasFound (asked memory.now name.now c n ps)
+        (point (F.view folder.old) (H.view host.old) calls warnings.old.items)
+        (point (F.view folder.new) (H.view host.new) calls warnings.new.items) }
     ensures frame { FolderKeeps (F.view folder.old) (F.view folder.new) }
     ensures host { HostKeeps (H.view host.old) (H.view host.new) }
     ensures clock { (H.view host.old).told → LeftAfter result (H.view host.old) (H.view host.new) }
@@ -184,6 +191,9 @@ fn computed<F: Folder>(
     ensures done { (F.view folder.old).told → result ≡ Cached.Computed value → PartDone OfKeeping (HasPutAll (entry_in memory.now name.now (key_of args.now)) (F.view folder.old).token (moved (F.view folder.old) (F.view folder.new))) warnings.old.items warnings.new.items }
     ensures alone { (F.view folder.old).told → IsLone (F.view folder.old).token (moved (F.view folder.old) (F.view folder.new)) → IsReadyToKeep (entry_in memory.now name.now (key_of args.now)) (state (F.view folder.old)) → (Rose (F.view folder.old).faults (F.view folder.new).faults → ⊥) → result ≡ Cached.Computed value →
         HasEntry (entry_in memory.now name.now (key_of args.now)) (F.view folder.old).token (texts_of code.now args.now (tree_of value) duration moment) (state (F.view folder.old)) (state (F.view folder.new)) }
+    ensures did { (F.view folder.old).told → result ≡ Cached.Computed value → (n : ℕ)
+        → HasKept (asked memory.now name.now code.now n args.now) (tree_of value) duration moment
+        warnings.old.items warnings.new.items (F.view folder.old) (F.view folder.new) }
     ensures frame { FolderKeeps (F.view folder.old) (F.view folder.new) }
 {
     let Ok(key) = digest(alloc, args) else {
@@ -229,6 +239,10 @@ fn missed<L: Library, F: Folder, H: Host>(
         (Stands (output_path (root_of memory.now.location) memory.now.«module» name.now args.now) code.now args.now (state (F.view folder.old)) → ⊥) →
         (duration : ℕ) × (moment : ℕ) × AnswersAlone result (asked memory.now name.now code.now n args.now) duration moment (state (F.view folder.old)) (state (F.view folder.new))
         × ((H.view host.old).told → AreTimed result duration moment (H.view host.old)) }
+    ensures did { (F.view folder.old).told → (n : ℕ)
+        → HasAnswered L.answer (asked memory.now name.now code.now n args.now) result
+        (point (F.view folder.old) (H.view host.old) (L.calls lib.old) warnings.old.items)
+        (point (F.view folder.new) (H.view host.new) (L.calls lib.new) warnings.new.items) }
     ensures loaded { L.loaded lib.new ≡ L.loaded lib.old }
     ensures frame { FolderKeeps (F.view folder.old) (F.view folder.new) }
     ensures host { HostKeeps (H.view host.old) (H.view host.new) }
@@ -290,6 +304,10 @@ fn answered<L: Library, F: Folder, H: Host>(
     ensures tidy { (F.view folder.old).told → (n : ℕ) → IsOrderly (root_of memory.now.location) (F.view folder.old) (F.view folder.new) → ComesTidy result (asked memory.now name.now code.now n args.now) (F.view folder.old) (F.view folder.new) }
     ensures answer { IsAnswer result (L.answer code.now args.now) (IsTrusted (root_of memory.now.location) L.answer (F.view folder.old) (F.view folder.new)) }
     ensures calls { CountsCall result (L.calls lib.old) (L.calls lib.new) }
+    ensures did { (F.view folder.old).told → (n : ℕ) → IfAnswered result
+        (AnswerDid L.answer (asked memory.now name.now code.now n args.now) result
+        (point (F.view folder.old) (H.view host.old) (L.calls lib.old) warnings.old.items)
+        (point (F.view folder.new) (H.view host.new) (L.calls lib.new) warnings.new.items)) }
     ensures loaded { L.loaded lib.new ≡ L.loaded lib.old }
     ensures frame { FolderKeeps (F.view folder.old) (F.view folder.new) }
     ensures host { HostKeeps (H.view host.old) (H.view host.new) }
@@ -346,6 +364,12 @@ pub fn call_cached<L: Library, F: Folder, H: Host>(
         (duration : ℕ) × (moment : ℕ) × LeavesNext result (asked memory.now name.now c n args.now) duration moment (state (F.view folder.old)) (state (F.view folder.new))
         × ((H.view host.old).told → AreTimed result duration moment (H.view host.old)) }
     ensures quiet { (F.view folder.old).told → IsLone (F.view folder.old).token (moved (F.view folder.old) (F.view folder.new)) → IsSound (root_of memory.now.location) L.answer (state (F.view folder.old)) → (Rose (F.view folder.old).faults (F.view folder.new).faults → ⊥) → WarnsOfOthers warnings.old.items warnings.new.items }
+    // The same as its three parts, with what stood between them.
+    ensures did { (c : List ℕ) (n : ℕ) → L.code (L.loaded lib.old) name.now ≡ Some c
+        → L.line (L.loaded lib.old) name.now ≡ n → (F.view folder.old).told
+        → TaskDid L.answer (asked memory.now name.now c n args.now) result
+        (point (F.view folder.old) (H.view host.old) (L.calls lib.old) warnings.old.items)
+        (point (F.view folder.new) (H.view host.new) (L.calls lib.new) warnings.new.items) }
     ensures loaded { L.loaded lib.new ≡ L.loaded lib.old }
     ensures frame { FolderKeeps (F.view folder.old) (F.view folder.new) }
     ensures host { HostKeeps (H.view host.old) (H.view host.new) }

@@ -1,4 +1,4 @@
-use Rattle.std.proofs.Common.{◌≡◌, ◌∙◌, ℕ, List, inl, inr, ⊎_elim, sym, subst}
+use Rattle.std.proofs.Common.{◌≡◌, ◌∙◌, ℕ, List, refl, inl, inr, ⊎_elim, sym, subst}
 use Rattle.jl_folder.specs.State.{State}
 use Rattle.jl_folder.specs.Views.{state, moved}
 use Rattle.jl_folder.proofs.Frames.{answers_keeps, keeps_trans}
@@ -33,6 +33,7 @@ use Rattle.jl_store.proofs.DoneLemmas.{looked_done, found_done, missed_done}
 use Rattle.jl_store.proofs.Readiness.{waits_silent, found_home, missed_home}
 use Rattle.jl_store.proofs.LoneCalls.{LeavesAnswer, look_hit, look_miss, stands_in, found_leaves, memory_leaves}
 use Rattle.jl_store.proofs.Orders.{found_ordered, all_ordered, ordered_later}
+use Rattle.jl_store.proofs.TaskLemmas.{hit_did, miss_did}
 use Rattle.jl_store.proofs.Putting.{puts_later, puts_waits}
 use Rattle.jl_store.proofs.cached.answered.Goals as goal
 
@@ -331,3 +332,49 @@ returns-in-Miss-clause-order g c = λ told.
     let told' = c.look.ensures.frame.told told in
     ordered_later (IsMakingEntry e) (IsMakingEntry e) Silent e (λ m none. absurd none) (λ m kind. kind) old mid new (waits_silent old mid c.look.ensures.frame.token (c.look.ensures.waits told)) (c.missed.ensures.lawful told').went r
     (all_ordered (IsMakingEntry e) e mid.token (moved mid new) r (c.missed.ensures.order told'))
+
+-- ---- its parts
+
+pub returns-in-Hit-clause-did : goal.returns-in-Hit-clause-did
+returns-in-Hit-clause-did g c = λ told n.
+    let name = c.args.name.now in
+    let code = c.args.code.now in
+    let ps = c.args.args.now in
+    let a = asked c.args.memory.now name code n ps in
+    let old = g.F.Folder.view c.args.folder.now in
+    let mid = g.F.Folder.view c.look.new.folder in
+    let new = g.F.Folder.view c.found.new.folder in
+    let calls = g.L.Library.calls c.args.lib.now in
+    let frame = c.look.ensures.frame in
+    hit_did g.L.Library.answer a old mid new (g.H.Host.view c.args.host.now) (g.H.Host.view c.found.new.host) calls calls
+    c.args.warnings.now.items c.look.new.warnings.items c.found.new.warnings.items frame.told c.found.result c.in-Hit.value c.found.ensures.found
+    (record {
+      answers = frame;
+      waits = c.look.ensures.waits told;
+      looks = c.in-Hit.ensures.looks n;
+      tidy = λ orderly. c.in-Hit.ensures.tidy told n orderly;
+      sound = λ answer trust. c.in-Hit.ensures.sound answer trust;
+      calls = refl;
+      clock = refl;
+    })
+    (λ is. c.found.ensures.did (frame.told told) is code n ps calls c.requires.key)
+
+pub returns-in-Miss-clause-did : goal.returns-in-Miss-clause-did
+returns-in-Miss-clause-did g c = λ told n.
+    let a = asked c.args.memory.now c.args.name.now c.args.code.now n c.args.args.now in
+    let old = g.F.Folder.view c.args.folder.now in
+    let mid = g.F.Folder.view c.look.new.folder in
+    let new = g.F.Folder.view c.missed.new.folder in
+    let frame = c.look.ensures.frame in
+    miss_did g.L.Library.answer a old mid new (g.H.Host.view c.args.host.now) (g.H.Host.view c.missed.new.host) (g.L.Library.calls c.args.lib.now) (g.L.Library.calls c.missed.new.lib)
+    c.args.warnings.now.items c.look.new.warnings.items c.missed.new.warnings.items frame.told c.missed.result _ _ _ c.missed.ensures.missed
+    (record {
+      answers = frame;
+      waits = c.look.ensures.waits told;
+      looks = c.in-Miss.ensures.looks n;
+      tidy = λ orderly. c.in-Miss.ensures.tidy told n orderly;
+      sound = λ answer trust. c.in-Miss.ensures.sound answer trust;
+      calls = refl;
+      clock = refl;
+    })
+    (c.missed.ensures.did (frame.told told) n)

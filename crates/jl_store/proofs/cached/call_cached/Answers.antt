@@ -1,7 +1,8 @@
-use Rattle.std.proofs.Common.{◌≡◌, ◌⊎◌, inl, inr, ⊎_elim, ◌∙◌, ℕ, List, [], refl, sym, subst, append-nil}
+use Rattle.std.proofs.Common.{◌≡◌, ◌⊎◌, inl, inr, ⊎_elim, ◌∙◌, ℕ, List, [], ◌++◌, refl, sym, subst, append-nil}
 use Rattle.jl_text.specs.Paths.{PathView}
 use Rattle.jl_text.specs.Counts.{Rose}
-use Rattle.jl_folder.specs.Views.{FolderView, state, moved}
+use Rattle.jl_folder.specs.Views.{FolderView, FolderKeeps, state, moved}
+use Rattle.jl_streams.specs.Views.{HostView}
 use Rattle.jl_folder.proofs.Frames.{answers_keeps, keeps_none, keeps_trans}
 use Rattle.jl_entry.specs.Names.{root_of}
 use Rattle.jl_entry.specs.Codes.{code_text}
@@ -17,7 +18,7 @@ use Rattle.jl_protocol.specs.Proper.{IsProper, LawfulThroughout}
 use Rattle.jl_protocol.specs.Tidy.{IsTidy}
 use Rattle.jl_protocol.proofs.Before.{one_value, some_of}
 use Rattle.jl_clear.proofs.DoingLemmas.{rose_later, later_rose}
-use Rattle.jl_store.specs.Asked.{asked}
+use Rattle.jl_store.specs.Asked.{Asked, asked}
 use Rattle.jl_store.specs.Cached.{IsAnswer, ComesBy, ComesTidy}
 use Rattle.jl_store.specs.Calling.{IsBeforeOutput, PutsCall, PutsAnswer, IsAnswering, IsWritingCall, IsCalling}
 use Rattle.jl_store.specs.Trust.{IsTrusted}
@@ -28,6 +29,9 @@ use Rattle.jl_store.specs.Next.{entry_asked, ChecksAlone}
 use Rattle.jl_store.specs.Warned.{UsesCall, IsOrderly}
 use Rattle.jl_store.specs.Parts.{HasFunction, WarnsFrom, check_warns}
 use Rattle.jl_store.specs.Done.{AnswersOrWarns}
+use Rattle.jl_store.specs.Stretch.{point}
+use Rattle.jl_store.specs.Task.{AnswerDid, IfAnswered, TaskDid}
+use Rattle.jl_store.specs.declared.memory.Warning.{Warning}
 use Rattle.jl_store.specs.declared.cached.Cached.{Cached}
 use Rattle.jl_store.specs.declared.cached.Cached.TheVariants.{NoMemory}
 use Rattle.jl_store.proofs.Answering.{answer_under}
@@ -41,6 +45,7 @@ use Rattle.jl_store.proofs.Readiness.{checked_home, code_uses}
 use Rattle.jl_store.proofs.LoneMoves.{lone_untouched}
 use Rattle.jl_store.proofs.LoneCalls.{LeavesAnswer, lone_orderly, tidy_after, after_check, leaves_next, lone_warns, nothing_next}
 use Rattle.jl_store.proofs.Orders.{ordered_later}
+use Rattle.jl_store.proofs.TaskLemmas.{whole_did}
 use Rattle.jl_store.proofs.Putting.{puts_none, checked_puts, whole_puts}
 use Rattle.jl_store.proofs.cached.call_cached.Goals as goal
 
@@ -474,3 +479,75 @@ returns-in-Ok-warn_of_check-clause-order g c = λ told.
     ordered_later (IsMakingEntry e) (IsBeforeOutput e old.token) (IsChecking (function_path e.root e.module_name e.function_name) (code_path e.root e.module_name e.function_name) (code_temp e.root e.module_name e.function_name memory.token)) e
     (λ m kind. subst (λ (u : List ℕ). IsBeforeOutput e u m) (sym c.requires.token) (before_kinds e memory.token m kind)) (λ m kind. inr (inr kind))
     old (g.F.Folder.view c.check_code-check.new.folder) (g.F.Folder.view c.answered.new.folder) (record { went = called.went; own = called.own }) (c.answered.ensures.lawful told').went c.answered.result (c.answered.ensures.order told')
+
+-- ---- its parts
+
+-- for want of memory no part is told
+ended : (answer : Answers) (a : Asked) (old new : FolderView) (host : HostView) (calls : ℕ) (ws ws' : List Warning)
+    → Lawfully a.root answer (IsCalling NoMemory (entry_asked a) old.token) old new → FolderKeeps old new → TaskDid answer a NoMemory (point old host calls ws) (point new host calls ws')
+ended answer a old new host calls ws ws' call keeps =
+    record { call = call; folder = keeps; host = record { told = λ t. t; token = refl; processors = refl }; counts = inl refl; parts = tt }
+
+pub returns-in_default-clause-did : goal.returns-in_default-clause-did
+returns-in_default-clause-did g c = λ code n is line told.
+    let v = g.F.Folder.view c.args.folder.now in
+    ended _ (asked c.args.memory.now c.args.name.now code n c.args.args.now) v v (g.H.Host.view c.args.host.now) _ _ _ (returns-in_default-clause-lawful g c told) (returns-in_default-clause-frame g c)
+
+pub returns-in_default-digest-clause-did : goal.returns-in_default-digest-clause-did
+returns-in_default-digest-clause-did g c = λ code n is line told.
+    let v = g.F.Folder.view c.args.folder.now in
+    ended _ (asked c.args.memory.now c.args.name.now code n c.args.args.now) v v (g.H.Host.view c.args.host.now) _ _ _ (returns-in_default-digest-clause-lawful g c told) (returns-in_default-digest-clause-frame g c)
+
+pub returns-clause-did : goal.returns-clause-did
+returns-clause-did g c = λ code n is line told.
+    ended _ (asked c.args.memory.now c.args.name.now code n c.args.args.now) (g.F.Folder.view c.args.folder.now) (g.F.Folder.view c.check_code-check.new.folder) (g.H.Host.view c.args.host.now) _ _ _ (returns-clause-lawful g c told) (returns-clause-frame g c)
+
+pub returns-in-Ok-warn_of_check-clause-did : goal.returns-in-Ok-warn_of_check-clause-did
+returns-in-Ok-warn_of_check-clause-did g c = λ code n is line told.
+    let lib = g.L.Library in
+    let memory = c.args.memory.now in
+    let name = c.args.name.now in
+    let ps = c.args.args.now in
+    let root = root_of memory.location in
+    let home = function_path root memory.module name in
+    let last = code_path root memory.module name in
+    let temp = code_temp root memory.module name memory.token in
+    let a = asked memory name code n ps in
+    let r = c.answered.result in
+    let host = g.H.Host.view c.args.host.now in
+    let host' = g.H.Host.view c.answered.new.host in
+    let old = g.F.Folder.view c.args.folder.now in
+    let mid = g.F.Folder.view c.check_code-check.new.folder in
+    let new = g.F.Folder.view c.answered.new.folder in
+    let calls = lib.calls c.args.lib.now in
+    let calls' = lib.calls c.answered.new.lib in
+    let ws = c.args.warnings.now.items in
+    let ws1 = c.warn_of_check.new.warnings.items in
+    let ws2 = c.answered.new.warnings.items in
+    let check = c.check_code-check.result in
+    let mine = c.check_code-check.ensures in
+    let text = c.as_str-text.result.now in
+    let same : text ≡ code = c.as_str-text.ensures ∙ one_value (lib.code (lib.loaded c.args.lib.now) name) c.in-Ok.code.text code c.in-Ok.ensures.code is in
+    let one = sym c.in-Ok.ensures.line ∙ line in
+    record {
+      call = returns-in-Ok-warn_of_check-clause-lawful g c told;
+      folder = returns-in-Ok-warn_of_check-clause-frame g c;
+      host = c.answered.ensures.host;
+      counts = c.answered.ensures.calls;
+      parts = whole_did lib.answer a old mid new host host' calls calls' ws ws1 ws2 mine.frame.told r check
+          (record {
+            answers = mine.frame;
+            remembers = c.in-Ok-warn_of_check.ensures.memory;
+            call = coded root home last temp text code c.in-Ok.code.line n old mid same one (mine.called told);
+            checks = subst (λ (k : List ℕ). Checks check home last temp k old mid) same (mine.checks told);
+            skipped = λ skipped orderly. mine.skipped told skipped orderly;
+            alone = λ lone tidy rose.
+            subst (λ (k : List ℕ). ChecksAlone check home last temp k (code_text k n) (state old) (state mid)) same
+            (subst (λ (k : ℕ). ChecksAlone check home last temp text (code_text text k) (state old) (state mid)) one (mine.alone told lone tidy rose));
+            warns = subst (λ (k : List ℕ). ws1 ≡ ws ++ check_warns check name (record { 0 = k })) c.in-Ok-digest.ensures.key c.in-Ok-warn_of_check.ensures.ok;
+            calls = refl;
+            clock = refl;
+          })
+          (subst (λ (k : List ℕ). IfAnswered r (AnswerDid lib.answer (asked memory name k n ps) r (point mid host calls ws1) (point new host' calls' ws2))) same
+          (c.answered.ensures.did (mine.frame.told told) n));
+    }

@@ -1,4 +1,4 @@
-use Rattle.std.proofs.Common.{refl}
+use Rattle.std.proofs.Common.{◌≡◌, ℕ, List, ◌++◌, refl, subst}
 use Rattle.jl_folder.specs.Views.{moved}
 use Rattle.jl_folder.proofs.Frames.{answers_keeps}
 use Rattle.jl_value.specs.Form.{tree_of}
@@ -120,3 +120,16 @@ returns-in-Ok-warn_of-clause-order g c = λ told. c.keep-kept.ensures.order told
 
 pub returns-in-Err-clause-order : goal.returns-in-Err-clause-order
 returns-in-Err-clause-order g c = λ told. c.keep-kept.ensures.order told
+
+pub returns-in-Ok-warn_of-clause-did : goal.returns-in-Ok-warn_of-clause-did
+returns-in-Ok-warn_of-clause-did g c = λ told is n.
+    let kept = c.keep-kept.result in
+    record {
+      kept = kept;
+      answers = c.keep-kept.ensures.frame;
+      remembers = c.in-Ok-warn_of.ensures.memory;
+      call = c.keep-kept.ensures.called told;
+      order = c.keep-kept.ensures.order told;
+      alone = λ done lone. c.keep-kept.ensures.alone told done lone;
+      warns = subst (λ (k : List ℕ). c.warn_of.new.warnings.items ≡ c.args.warnings.now.items ++ keep_warns kept c.args.name.now (record { 0 = k })) c.in-Ok.ensures.key c.in-Ok-warn_of.ensures.ok;
+    }

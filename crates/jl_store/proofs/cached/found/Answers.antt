@@ -1,6 +1,6 @@
-use Rattle.std.proofs.Common.{◌≡◌, ◌⊎◌, inl, inr, ℕ, List, refl, subst}
+use Rattle.std.proofs.Common.{◌≡◌, ◌⊎◌, inl, inr, ℕ, List, ◌++◌, refl, subst}
 use Rattle.jl_folder.specs.State.{State}
-use Rattle.jl_folder.specs.Views.{FolderView, moved}
+use Rattle.jl_folder.specs.Views.{FolderView, state, moved}
 use Rattle.jl_folder.proofs.Frames.{answers_keeps}
 use Rattle.jl_entry.specs.Moments.{access_text}
 use Rattle.jl_entry.specs.declared.names.EntryFile.TheVariants.{Access}
@@ -11,6 +11,7 @@ use Rattle.jl_protocol.specs.Whole.{Answers}
 use Rattle.jl_store.specs.Asked.{asked}
 use Rattle.jl_store.specs.Calling.{IsAnswering}
 use Rattle.jl_store.specs.Kinds.{IsFor, PutsThis, UsesNames}
+use Rattle.jl_store.specs.Publishing.{IsPublished}
 use Rattle.jl_store.specs.Keeping.{Entry, KeepsFile, HasPut, entry_in, file_of, last_of, temp_of, IsReadyToTouch}
 use Rattle.jl_store.specs.Parts.{HasFolder, keep_warns}
 use Rattle.jl_store.specs.declared.answer.Keep.{Keep}
@@ -118,3 +119,27 @@ returns-in-Err-clause-puts g c = λ told code n ps same.
     found_puts _ a (g.H.Host.view c.args.host.now) c.args.value moment (IsReadyToTouch (entry_in memory name (key_of ps))) kept old new (inr refl)
     (subst (λ (k : List ℕ). KeepsFile (entry_in memory name k) Access (access_text moment) (IsReadyToTouch (entry_in memory name k)) kept old new) same (c.touch-kept.ensures.called told))
     (λ tells. c.now-moment.ensures.moment tells)
+
+pub returns-in-Ok-clause-did : goal.returns-in-Ok-clause-did
+returns-in-Ok-clause-did g c = λ told is code n ps calls same.
+    let memory = c.args.memory.now in
+    let name = c.args.name.now in
+    let old = g.F.Folder.view c.args.folder.now in
+    let new = g.F.Folder.view c.touch-kept.new.folder in
+    let kept = c.touch-kept.result in
+    let moment = c.now-moment.result in
+    record {
+      moment = moment;
+      touched = record {
+        kept = kept;
+        answers = c.touch-kept.ensures.frame;
+        remembers = c.in-Ok.ensures.memory;
+        call = subst (λ (k : List ℕ). KeepsFile (entry_in memory name k) Access (access_text moment) (IsReadyToTouch (entry_in memory name k)) kept old new) same (c.touch-kept.ensures.called told);
+        alone = λ done lone.
+        subst (λ (k : List ℕ). IsPublished (last_of (entry_in memory name k) Access) (temp_of (entry_in memory name k) old.token Access) (access_text moment) (state old) (state new)) same (c.touch-kept.ensures.alone told done lone);
+        warns = subst (λ (k : List ℕ). c.warn_of.new.warnings.items ≡ c.args.warnings.now.items ++ keep_warns kept name (record { 0 = k })) same c.in-Ok.ensures.ok;
+      };
+      calls = refl;
+      timed = λ tells. c.now-moment.ensures.moment tells;
+      clock = λ tells. c.now-moment.ensures.moments tells;
+    }

@@ -1,4 +1,5 @@
 use Rattle.std.proofs.Common.{◌≡◌, ◌∙◌, ℕ, ◌-◌, List, [], ap, refl, sym, subst, append-nil}
+use Rattle.jl_folder.proofs.Frames.{answers_none}
 use Rattle.jl_streams.specs.Moments.{moment_of, moments_after}
 use Rattle.jl_folder.specs.Views.{state, moved}
 use Rattle.jl_value.specs.Form.{tree_of}
@@ -17,6 +18,8 @@ use Rattle.jl_store.proofs.Causing.{warns_none}
 use Rattle.jl_store.proofs.LoneCalls.{computed_leaves, error_leaves, memory_leaves, computed_clock}
 use Rattle.jl_store.proofs.DoneLemmas.{computed_done}
 use Rattle.jl_store.proofs.Orders.{order_none}
+use Rattle.jl_store.specs.Stretch.{point}
+use Rattle.jl_store.proofs.TaskLemmas.{computed_has}
 use Rattle.jl_store.proofs.Putting.{puts_none, computed_puts}
 use Rattle.jl_store.proofs.cached.missed.Goals as goal
 
@@ -138,3 +141,40 @@ pub returns-in-NoMemory-clause-order : goal.returns-in-NoMemory-clause-order
 returns-in-NoMemory-clause-order g c = λ told.
     let e = entry_in c.args.memory.now c.args.name.now (key_of c.args.args.now) in
     order_none (IsMakingEntry e) e (g.F.Folder.view c.args.folder.now)
+
+-- ---- its part of the call
+
+pub returns-in-Done-Value-clause-did : goal.returns-in-Done-Value-clause-did
+returns-in-Done-Value-clause-did g c = λ told n.
+    let a = asked c.args.memory.now c.args.name.now c.args.code.now n c.args.args.now in
+    let host = g.H.Host.view c.args.host.now in
+    let calls = g.L.Library.calls c.args.lib.now in
+    let before = point (g.F.Folder.view c.args.folder.now) host calls c.args.warnings.now.items in
+    let after = point (g.F.Folder.view c.computed.new.folder) (g.H.Host.view c.now-after.new.self) (g.L.Library.calls c.call-called.new.self) c.computed.new.warnings.items in
+    computed_has g.L.Library.answer a before after c.computed.result c.in-Done-Value.value c.computed.ensures.computed
+    (λ is. record {
+      answered = sym (c.in-Done-Value.ensures.answer c.args.code.now c.requires.defined) ∙ ap outcome_of c.in-Done-Value.field-0-is;
+      duration = c.saturating_sub.result;
+      moment = c.now-after.result;
+      kept = c.computed.ensures.did told is n;
+      calls = c.in-Done-Value.ensures.calls;
+      ended = λ tells. c.now-after.ensures.moment (c.now-before.ensures.frame.told tells) ∙ ap moment_of (c.now-before.ensures.moments tells);
+      took = λ tells.
+      let first : c.now-before.result ≡ moment_of host.moments = c.now-before.ensures.moment tells in
+      let second : c.now-after.result ≡ moment_of (moments_after host.moments) = c.now-after.ensures.moment (c.now-before.ensures.frame.told tells) ∙ ap moment_of (c.now-before.ensures.moments tells) in
+      c.saturating_sub.ensures ∙ (λ i. second i - first i);
+      clock = λ tells. c.now-after.ensures.moments (c.now-before.ensures.frame.told tells) ∙ ap moments_after (c.now-before.ensures.moments tells);
+    })
+
+pub returns-in-Done-Error-clause-did : goal.returns-in-Done-Error-clause-did
+returns-in-Done-Error-clause-did g c = λ told n. record {
+  answered = sym (c.in-Done-Error.ensures.answer c.args.code.now c.requires.defined) ∙ ap outcome_of c.in-Done-Error.field-0-is;
+  answers = answers_none (g.F.Folder.view c.args.folder.now);
+  history = refl;
+  warns = refl;
+  calls = c.in-Done-Error.ensures.calls;
+  clock = λ tells. c.now-after.ensures.moments (c.now-before.ensures.frame.told tells) ∙ ap moments_after (c.now-before.ensures.moments tells);
+}
+
+pub returns-in-NoMemory-clause-did : goal.returns-in-NoMemory-clause-did
+returns-in-NoMemory-clause-did g c = λ told n. tt
