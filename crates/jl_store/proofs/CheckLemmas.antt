@@ -1,5 +1,5 @@
 -- Checking a function's code: what was read, and what was stored.
-use Rattle.std.proofs.Common.{◌≡◌, ◌⊎◌, inl, inr, ℕ, false, List, ◌++◌, refl, sym, ap, subst, ◌∙◌, append_assoc, arith}
+use Rattle.std.proofs.Common.{◌≡◌, ◌⊎◌, inl, inr, ℕ, false, List, [], ◌∷◌, ◌++◌, refl, sym, ap, subst, ◌∙◌, append_assoc, arith}
 use Rattle.jl_text.specs.Paths.{PathView}
 use Rattle.jl_folder.specs.declared.moves.Move.{Move}
 use Rattle.jl_folder.specs.declared.moves.Move.TheVariants.{MakeDir, Create, Append, Rename, Remove, RemoveDir}
@@ -24,6 +24,7 @@ use Rattle.jl_text.specs.Counts.{Rose}
 use Rattle.jl_clear.proofs.DoingLemmas.{rose_later, later_rose}
 use Rattle.jl_store.specs.Doing.{IsMaking, IsClearing}
 use Rattle.jl_store.specs.Kinds.{IsFor, RenamesThis, PutsThis}
+use Rattle.jl_store.specs.Renames.{IsNoRename}
 use Rattle.jl_store.specs.Publishing.{EndsIn}
 use Rattle.jl_store.specs.Checking.{IsOfCode, IsHeld, Holds, AreFiles, IsDone, IsUnfitHeld, Comes, Stores, IsWriting, IsReplacing, MovesFor, IsChecking, Writes, Replaces, Stored, Checks, function_path, code_path, code_temp}
 use Rattle.jl_store.specs.declared.checks.CodeCheck.{CodeCheck}
@@ -32,6 +33,7 @@ use Rattle.jl_store.specs.declared.checks.Held.{Held}
 use Rattle.jl_store.specs.declared.checks.Held.TheVariants as held
 use Rattle.jl_store.specs.declared.checks.CodeFiles.{CodeFiles}
 use Rattle.jl_store.proofs.LookLemmas.{read_whole, read_short, read_has}
+use Rattle.jl_store.proofs.InTurn.{turns_none, turns_moves, turns_then}
 use Rattle.jl_store.proofs.Ending.{ends_later}
 
 -- ---- what was read
@@ -75,9 +77,10 @@ module _ (files : CodeFiles) (bytes : List ℕ) where
     goes = λ t. goes_none v;
     called = λ t root x fun temp final whole. not_called (IsProper root) (PutsThis root files.last bytes) Kinds (IsTidy root) Anywhere v (λ s tidy. tt);
     ends = λ t done. absurd (undone done);
+    once = λ t root x temp final whole. turns_none (files.last ∷ []) v;
   }
 
-  module _ (K : Move → Type 0) (puts : (root : PathView) → IsFunctionFolder root files.folder → (t : List ℕ) (s : State) (m : Move) → K m → PutsThis root files.last bytes t s m) where
+  module _ (K : Move → Type 0) (none : (m : Move) → K m → IsNoRename m) (puts : (root : PathView) → IsFunctionFolder root files.folder → (t : List ℕ) (s : State) (m : Move) → K m → PutsThis root files.last bytes t s m) where
     abbrev pub Both : Move → Type 0
     Both m = K m ⊎ IsFor files.last files.temp m
 
@@ -91,6 +94,9 @@ module _ (files : CodeFiles) (bytes : List ℕ) where
           (moves_called (IsProper root) (PutsThis root files.last bytes) K (IsTidy root) old mid (λ s m is. puts root fun old.token s m is) (a t))
           (b.called (frame.told t) root x fun (subst (λ (u : List ℕ). IsTemp root x u files.temp) (sym frame.token) temp) final whole);
       ends = λ t done. ends_later (Rename files.temp files.last) old mid new (a t).went (b.goes (frame.told t)) (b.ends (frame.told t) done);
+      once = λ t root x temp final whole.
+          turns_then [] (files.last ∷ []) old mid new (a t).went (b.goes (frame.told t)) (turns_moves [] K none old mid (a t))
+          (b.once (frame.told t) root x (subst (λ (u : List ℕ). IsTemp root x u files.temp) (sym frame.token) temp) final whole);
     }
 
     -- other moves alone
@@ -102,6 +108,7 @@ module _ (files : CodeFiles) (bytes : List ℕ) where
           called_for (IsProper root) (PutsThis root files.last bytes) K Both (IsTidy root) (IsTidy root) Anywhere Anywhere old new (λ m is. inl is) (λ s tidy. tidy) (λ s post. tt)
           (moves_called (IsProper root) (PutsThis root files.last bytes) K (IsTidy root) old new (λ s m is. puts root fun old.token s m is) (a t));
       ends = λ t done. absurd (undone done);
+      once = λ t root x temp final whole. turns_moves (files.last ∷ []) K none old new (a t);
     }
 
 -- ---- the whole check

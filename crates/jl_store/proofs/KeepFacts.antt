@@ -29,6 +29,7 @@ use Rattle.jl_store.specs.declared.files.Published.{Published}
 use Rattle.jl_store.specs.declared.files.Published.TheVariants as published
 use Rattle.jl_store.specs.declared.answer.Keep.{Keep}
 use Rattle.jl_store.specs.declared.answer.Keep.TheVariants as keep
+use Rattle.jl_store.proofs.InTurn.{turns_none}
 use Rattle.jl_store.proofs.EntryNames.{IsNamed, final_of, temp_is, last_parent, last_free, last_home, entry_not_last, entry_not_temp, last_not_last, last_not_temp, temp_not_last, temp_not_temp, for_apart}
 
 -- ---- one file
@@ -88,6 +89,7 @@ module _ (e : Entry) (file : EntryFile) (old new : FolderView) where
       subst (λ p. Publishes e.root p (temp_of e token file) bytes r old new) final.is (subst (λ p. Publishes e.root last p bytes r old new) is_temp.is publishes) in
       record {
         call = here.call;
+        once = here.once;
         kept = λ is. let end = ends (done_if r is) in (end.0, [], subst (λ p. moved old new ≡ end.0 ++ (token, Rename p (last_of e file)) ∷ []) is_temp.is (subst (λ p. moved old new ≡ end.0 ++ (token, Rename temp p) ∷ []) final.is end.1));
         skipped = λ is ready. here.skipped (skipped_if r is) (record { last_free = ready.last_free; temp_free = ready.temp_free; home = last_home e file (state old) ready.home });
       }
@@ -97,7 +99,7 @@ module _ (e : Entry) (file : EntryFile) (old new : FolderView) where
 
   -- told of another beginning
   pub file_from : (bytes : List ℕ) (Ready Ready' : State → Type 0) (r : Keep) → (r ≡ keep.Skipped → Ready' (state old) → TouchedByOther token (UsesNames (last_of e file) (temp_of e token file)) (moved old new)) → KeepsFile e file bytes Ready r old new → KeepsFile e file bytes Ready' r old new
-  file_from bytes Ready Ready' r skipped keeps = record { call = keeps.call; kept = keeps.kept; skipped = skipped }
+  file_from bytes Ready Ready' r skipped keeps = record { call = keeps.call; once = keeps.once; kept = keeps.kept; skipped = skipped }
 
   -- one file is a part of the entry
   pub file_part : (text : EntryFile → List ℕ) (r : Keep) → KeepsFile e file (text file) (IsReadyFor e token file) r old new → Keeps e text (IsReadyFor e token file) (HasPut e token file) r old new
@@ -119,6 +121,7 @@ module _ (e : Entry) (file : EntryFile) (old new : FolderView) where
 pub nothing_filed : (e : Entry) (file : EntryFile) (bytes : List ℕ) (Ready : State → Type 0) (v : FolderView) → KeepsFile e file bytes Ready keep.NoMemory v v
 nothing_filed e file bytes Ready v = record {
   call = not_called (IsProper e.root) (PutsThis e.root (last_of e file) bytes) (IsFor (last_of e file) (temp_of e v.token file)) (IsTidy e.root) Anywhere v (λ s tidy. tt);
+  once = turns_none (last_of e file ∷ []) v;
   kept = λ (is : keep.NoMemory ≡ keep.Kept). absurd (cc);
   skipped = λ (is : keep.NoMemory ≡ keep.Skipped). absurd (cc);
 }

@@ -13,6 +13,7 @@ pub mod EntryNames
 pub mod Filling
 pub mod FindLemmas
 pub mod FolderCauses
+pub mod InTurn
 pub mod KeepFacts
 pub mod KindFacts
 pub mod Lawfully

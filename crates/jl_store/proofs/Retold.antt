@@ -90,7 +90,7 @@ module _ (t t' : Type 0) (old new : FolderView) where
   -- one file that was kept
   pub file_retold : (e : Entry) (file : EntryFile) (bytes : List ℕ) (Ready : State → Type 0) (k : Keep)
       → KeepsFile e file bytes Ready k old new → KeepsFile e file bytes Ready k (retold t old) (retold t' new)
-  file_retold e file bytes Ready k keeps = record { call = called_retold _ _ _ _ _ keeps.call; kept = keeps.kept; skipped = keeps.skipped }
+  file_retold e file bytes Ready k keeps = record { call = called_retold _ _ _ _ _ keeps.call; once = keeps.once; kept = keeps.kept; skipped = keeps.skipped }
 
   -- an entry that was kept
   pub entry_retold : (e : Entry) (text : EntryFile → List ℕ) (Ready : State → Type 0) (Done : Trace → Type 0) (k : Keep)

@@ -32,6 +32,7 @@ module _ (a : Asked) (t t' : Type 0) (p q : Point) where
     answers = answers_retold t t' p.folder q.folder _ f h.answers;
     remembers = h.remembers;
     call = called_retold t t' p.folder q.folder _ _ _ _ _ h.call;
+    once = h.once;
     checks = checks_retold t t' p.folder q.folder c _ _ _ _ h.checks;
     skipped = h.skipped;
     alone = h.alone;
@@ -70,6 +71,7 @@ module _ (a : Asked) (t : Type 0) (p q : Point) (f : t → p.folder.told) where
     answers = answers_retold t q.folder.told p.folder q.folder _ (λ x. h.answers.told (f x)) h.answers;
     remembers = h.remembers;
     call = entry_retold t q.folder.told p.folder q.folder _ _ _ _ _ h.call;
+    once = h.once;
     order = h.order;
     alone = h.alone;
     warns = h.warns;

@@ -17,6 +17,7 @@ use Rattle.jl_protocol.specs.Proper.{IsProper}
 use Rattle.jl_protocol.specs.Tidy.{IsTidy}
 use Rattle.jl_store.specs.Doing.{IsPrefix, IsMaking, IsClearing}
 use Rattle.jl_store.specs.Kinds.{IsFor, PutsThis}
+use Rattle.jl_store.specs.Renames.{PutsInTurn}
 use Rattle.jl_store.specs.Publishing.{EndsIn}
 use Rattle.jl_store.specs.declared.files.Published.{Published}
 use Rattle.jl_store.specs.declared.files.Published.TheVariants as published
@@ -102,13 +103,15 @@ Comes check.StoreFault h = IsUnfitHeld h
 Comes check.NoMemory h = h ≢ held.Fault
 
 -- Own moves of these kinds, proper wherever all steps before them are, and each own rename gives the final name to these bytes. A publishing that
--- was done is its last step, and a fault rose exactly where it is told.
+-- was done is its last step, the final name is put in place at most once, and a fault rose exactly where it is told.
 pub record Stores (files : CodeFiles) (bytes : List ℕ) (Kinds : Move → Type 0) (result : CodeCheck) (old new : FolderView) : Type 0 where
   pub frame : FolderAnswers (result ≡ check.StoreFault) old new
   pub goes : old.told → GoesOn old new
   pub called : old.told → (root : PathView) (x : Final) → IsFunctionFolder root files.folder → IsTemp root x old.token files.temp → IsFinal root x files.last → IsWhole x bytes →
       Called (IsProper root) (PutsThis root files.last bytes) Kinds (IsTidy root) Anywhere old new
   pub ends : old.told → IsDone result → EndsIn (old.token, Rename files.temp files.last) (moved old new)
+  pub once : old.told → (root : PathView) (x : Final) → IsTemp root x old.token files.temp → IsFinal root x files.last → IsWhole x bytes →
+      PutsInTurn (files.last ∷ []) old.token (moved old new)
 
 -- the names that are used: the folder and those on the way to it, and the file's final and temporary name
 abbrev pub UsesCode : (folder last temp : PathView) → PathView → Type 0

@@ -21,6 +21,7 @@ use Rattle.jl_protocol.specs.Proper.{IsProper}
 use Rattle.jl_protocol.specs.Tidy.{NodeHas, IsTidy}
 use Rattle.jl_clear.specs.Taking.{IsBeside}
 use Rattle.jl_store.specs.Kinds.{IsPiece, IsFor, PutsThis, UsesNames}
+use Rattle.jl_store.specs.Renames.{PutsInTurn}
 use Rattle.jl_folder.specs.declared.folder.MadeDir.{MadeDir}
 use Rattle.jl_folder.specs.declared.folder.MadeDir.TheVariants as made_dir
 use Rattle.hex.specs.Hex.{encode_lower}
@@ -114,6 +115,13 @@ HasPutAll e token steps = HasPut e token Output steps × HasPut e token Metadata
 
 -- ---- in order
 
+-- the final names of the moments, and those of the entry, in the order in which they are put in place
+abbrev pub moments_of : Entry → List PathView
+moments_of e = last_of e Metadata ∷ last_of e Access ∷ []
+
+abbrev pub lasts_of : Entry → List PathView
+lasts_of e = last_of e Output ∷ moments_of e
+
 -- makes the entry's folder
 abbrev pub IsMakingEntry : Entry → Move → Type 0
 IsMakingEntry e m = m ≡ MakeDir (entry_path e)
@@ -156,9 +164,10 @@ pub record IsReadyFor (e : Entry) (token : List ℕ) (file : EntryFile) (s : Sta
   pub last_free : is_folder s (last_of e file) ≡ false
   pub temp_free : is_folder s (temp_of e token file) ≡ false
 
--- One file alone: the same of its final and temporary name.
+-- One file alone: the same of its final and temporary name, and it is put in place at most once.
 pub record KeepsFile (e : Entry) (file : EntryFile) (bytes : List ℕ) (Ready : State → Type 0) (result : Keep) (old new : FolderView) : Type 0 where
   pub call : Called (IsProper e.root) (PutsThis e.root (last_of e file) bytes) (IsFor (last_of e file) (temp_of e old.token file)) (IsTidy e.root) Anywhere old new
+  pub once : PutsInTurn (last_of e file ∷ []) old.token (moved old new)
   pub kept : result ≡ keep.Kept → HasPut e old.token file (moved old new)
   pub skipped : result ≡ keep.Skipped → Ready (state old) → TouchedByOther old.token (UsesNames (last_of e file) (temp_of e old.token file)) (moved old new)
 

@@ -12,6 +12,7 @@ pub mod Next
 pub mod Parts
 pub mod Publishing
 pub mod Reading
+pub mod Renames
 pub mod Storing
 pub mod Stretch
 pub mod Task

@@ -16,6 +16,7 @@ use Rattle.jl_protocol.specs.Whole.{IsWhole}
 use Rattle.jl_protocol.specs.Tidy.{IsTidy}
 use Rattle.jl_protocol.specs.Owned.{IsOwnFile}
 use Rattle.jl_store.specs.Kinds.{IsFor, PutsThis, UsesNames}
+use Rattle.jl_store.specs.Renames.{PutsInTurn}
 use Rattle.jl_store.specs.declared.temporary.TempFile.{TempFile}
 use Rattle.jl_store.specs.declared.temporary.TempFile.TheVariants as temp_file
 use Rattle.jl_store.specs.declared.temporary.Taken.{Taken}
@@ -93,9 +94,11 @@ pub record IsReady (last temp : PathView) (s : State) : Type 0 where
   pub home : has_parent s last ≡ true
 
 -- Each own step is proper wherever all steps before it are, and each own rename gives the final name to these bytes.
+-- The final name is put in place at most once.
 -- Skipped is answered only where another's step made or removed one of the names or their folder, if all was ready at the entry.
 pub record Publishes (root last temp : PathView) (bytes : List ℕ) (result : Published) (old new : FolderView) : Type 0 where
   pub call : Called (IsProper root) (PutsThis root last bytes) (IsFor last temp) (IsTidy root) Anywhere old new
+  pub once : PutsInTurn (last ∷ []) old.token (moved old new)
   pub skipped : result ≡ published.Skipped → IsReady last temp (state old) → TouchedByOther old.token (UsesNames last temp) (moved old new)
 
 -- ---- alone

@@ -25,12 +25,13 @@ use Rattle.jl_store.specs.Asked.{Asked}
 use Rattle.jl_store.specs.Cached.{CountsCall}
 use Rattle.jl_store.specs.Calling.{IsCalling}
 use Rattle.jl_store.specs.Checking.{Checks, IsChecking, UsesCode, function_path, code_path, code_temp}
-use Rattle.jl_store.specs.Keeping.{Keeps, KeepsFile, IsMakingEntry, InOrder, HasEntry, HasPutAll, last_of, temp_of, IsReadyToKeep, IsReadyToTouch, texts}
+use Rattle.jl_store.specs.Keeping.{Keeps, KeepsFile, IsMakingEntry, InOrder, HasEntry, HasPutAll, lasts_of, last_of, temp_of, IsReadyToKeep, IsReadyToTouch, texts}
 use Rattle.jl_store.specs.Kinds.{PutsThis}
 use Rattle.jl_store.specs.Looking.{Looks, LooksTidy, IsAnswered, warning}
 use Rattle.jl_store.specs.Next.{entry_asked, ChecksAlone}
 use Rattle.jl_store.specs.Parts.{keep_warns, check_warns}
 use Rattle.jl_store.specs.Publishing.{IsPublished}
+use Rattle.jl_store.specs.Renames.{PutsInTurn}
 use Rattle.jl_store.specs.Stretch.{Point, Between, between, reached}
 use Rattle.jl_store.specs.Trust.{IsTrusted}
 use Rattle.jl_store.specs.Warned.{IsOrderly}
@@ -51,13 +52,14 @@ abbrev pub key_asked : Asked → Key
 key_asked a = record { 0 = key_of a.args }
 
 -- The code's file was checked, with this answer. A fault rose exactly where it tells one; it tells what the file held at its opening, and so which
--- moves were made; and what it warns of is added. The function isn't called and the clock isn't read.
+-- moves were made; its final name is put in place at most once; and what it warns of is added. The function isn't called and the clock isn't read.
 pub record HasChecked (a : Asked) (result : CodeCheck) (before after : Point) : Type 0 where
   pub answers : FolderAnswers ((result ≡ check.LoadFault) ⊎ (result ≡ check.StoreFault)) before.folder after.folder
   pub remembers : result ≢ check.NoMemory
   pub call : Called (IsProper a.root) (PutsThis a.root (code_path a.root a.module_name a.function_name) (code_text a.code a.line))
       (IsChecking (function_path a.root a.module_name a.function_name) (code_path a.root a.module_name a.function_name)
       (code_temp a.root a.module_name a.function_name a.token)) (IsTidy a.root) Anywhere before.folder after.folder
+  pub once : PutsInTurn (code_path a.root a.module_name a.function_name ∷ []) before.folder.token (moved before.folder after.folder)
   pub checks : Checks result (function_path a.root a.module_name a.function_name) (code_path a.root a.module_name a.function_name)
       (code_temp a.root a.module_name a.function_name a.token) a.code before.folder after.folder
   pub skipped : result ≡ check.Skipped → IsOrderly a.root before.folder after.folder →
@@ -102,12 +104,13 @@ pub record HasTouched (a : Asked) (moment : ℕ) (ws ws' : List Warning) (before
       IsPublished (last_of (entry_asked a) Access) (temp_of (entry_asked a) before.token Access) (access_text moment) (state before) (state after)
   pub warns : ws' ≡ ws ++ keep_warns kept a.function_name (key_asked a)
 
--- A whole entry of this value was put in place in order, with this duration and moment, or it is warned why not.
+-- A whole entry of this value was put in place in order, each file at most once, with this duration and moment, or it is warned why not.
 pub record HasKept (a : Asked) (t : Tree) (duration moment : ℕ) (ws ws' : List Warning) (before after : FolderView) : Type 0 where
   pub kept : Keep
   pub answers : FolderAnswers (kept ≡ keep.Fault) before after
   pub remembers : kept ≢ keep.NoMemory
   pub call : Keeps (entry_asked a) (texts a.code a.args t duration moment) (IsReadyToKeep (entry_asked a)) (HasPutAll (entry_asked a) before.token) kept before after
+  pub once : PutsInTurn (lasts_of (entry_asked a)) before.token (moved before after)
   pub order : InOrder (IsMakingEntry (entry_asked a)) (entry_asked a) before.token (moved before after)
   pub alone : kept ≡ keep.Kept → IsLone before.token (moved before after) →
       HasEntry (entry_asked a) before.token (texts a.code a.args t duration moment) (state before) (state after)

@@ -84,7 +84,8 @@ fn warn_of(
     name: &str,
     key: &Key,
 ) -> Result<(), AllocError>
-    ensures ok { OnOk result (warnings.new.items ≡ warnings.old.items ++ keep_warns keep name.now key.now) }
+    ensures ok { OnOk result
+        (warnings.new.items ≡ warnings.old.items ++ keep_warns keep name.now key.now) }
     ensures err { OnErr result (warnings.new.items ≡ warnings.old.items) }
     ensures memory { OnOk result (keep ≢ Keep.NoMemory) }
 {
@@ -104,7 +105,8 @@ fn warn_of_check(
     name: &str,
     key: &Key,
 ) -> Result<(), AllocError>
-    ensures ok { OnOk result (warnings.new.items ≡ warnings.old.items ++ check_warns check name.now key.now) }
+    ensures ok { OnOk result
+        (warnings.new.items ≡ warnings.old.items ++ check_warns check name.now key.now) }
     ensures err { OnErr result (warnings.new.items ≡ warnings.old.items) }
     ensures memory { OnOk result (check ≢ CodeCheck.NoMemory) }
 {
@@ -133,16 +135,35 @@ fn found<F: Folder, H: Host>(
     requires token { (F.view folder.old).token ≡ memory.now.token }
     requires module_name { IsTrue (is_name memory.now.«module») }
     requires function_name { IsTrue (is_name name.now) }
-    ensures lawful { (F.view folder.old).told → (answer : Answers) → CallsFolder (IsLawful (root_of memory.now.location) answer) (IsLawful (root_of memory.now.location) answer) (IsAnswering result (entry_in memory.now name.now key.now.0) (F.view folder.old).token)
-        (IsSound (root_of memory.now.location) answer) (IsSound (root_of memory.now.location) answer) (F.view folder.old) (F.view folder.new) }
+    ensures lawful { (F.view folder.old).told → (answer : Answers)
+        → CallsFolder (IsLawful (root_of memory.now.location) answer)
+        (IsLawful (root_of memory.now.location) answer)
+        (IsAnswering result (entry_in memory.now name.now key.now.0) (F.view folder.old).token)
+        (IsSound (root_of memory.now.location) answer)
+        (IsSound (root_of memory.now.location) answer) (F.view folder.old) (F.view folder.new) }
     ensures found { (result ≡ Cached.Hit value) ⊎ (result ≡ Cached.NoMemory) }
-    ensures puts { (F.view folder.old).told → (c : List ℕ) (n : ℕ) (ps : Members) → key.now.0 ≡ key_of ps → PutsAnswer result (asked memory.now name.now c n ps) (H.view host.old) (F.view folder.old) (F.view folder.new) }
-    ensures warns { (c : List ℕ) (n : ℕ) (ps : Members) → key.now.0 ≡ key_of ps →
-        WarnsFrom (HasFolder (asked memory.now name.now c n ps)) (asked memory.now name.now c n ps) warnings.old.items warnings.new.items (F.view folder.old) (F.view folder.new) }
-    ensures done { (F.view folder.old).told → result ≡ Cached.Hit value → PartDone OfKeeping (HasPut (entry_in memory.now name.now key.now.0) (F.view folder.old).token EntryFile.Access (moved (F.view folder.old) (F.view folder.new))) warnings.old.items warnings.new.items }
-    ensures alone { (F.view folder.old).told → IsLone (F.view folder.old).token (moved (F.view folder.old) (F.view folder.new)) → IsReadyToTouch (entry_in memory.now name.now key.now.0) (state (F.view folder.old)) → (Rose (F.view folder.old).faults (F.view folder.new).faults → ⊥) → result ≡ Cached.Hit value →
-        (moment : ℕ) × IsPublished (last_of (entry_in memory.now name.now key.now.0) EntryFile.Access) (temp_of (entry_in memory.now name.now key.now.0) (F.view folder.old).token EntryFile.Access) (access_text moment) (state (F.view folder.old)) (state (F.view folder.new))
-        × ((H.view host.old).told → moment ≡ moment_of (H.view host.old).moments) }
+    ensures puts { (F.view folder.old).told → (c : List ℕ) (n : ℕ) (ps : Members)
+        → key.now.0 ≡ key_of ps
+        → PutsAnswer result (asked memory.now name.now c n ps) (H.view host.old) (F.view folder.old)
+        (F.view folder.new) }
+    ensures warns { (c : List ℕ) (n : ℕ) (ps : Members) → key.now.0 ≡ key_of ps
+        → WarnsFrom (HasFolder (asked memory.now name.now c n ps))
+        (asked memory.now name.now c n ps) warnings.old.items warnings.new.items (F.view folder.old)
+        (F.view folder.new) }
+    ensures done { (F.view folder.old).told → result ≡ Cached.Hit value
+        → PartDone OfKeeping (HasPut (entry_in memory.now name.now key.now.0)
+        (F.view folder.old).token EntryFile.Access (moved (F.view folder.old) (F.view folder.new)))
+        warnings.old.items warnings.new.items }
+    ensures alone { (F.view folder.old).told
+        → IsLone (F.view folder.old).token (moved (F.view folder.old) (F.view folder.new))
+        → IsReadyToTouch (entry_in memory.now name.now key.now.0) (state (F.view folder.old))
+        → (Rose (F.view folder.old).faults (F.view folder.new).faults → ⊥)
+        → result ≡ Cached.Hit value
+        → (moment : ℕ) × IsPublished
+        (last_of (entry_in memory.now name.now key.now.0) EntryFile.Access) (temp_of
+        (entry_in memory.now name.now key.now.0) (F.view folder.old).token EntryFile.Access)
+        (access_text moment) (state (F.view folder.old)) (state (F.view folder.new)) ×
+        ((H.view host.old).told → moment ≡ moment_of (H.view host.old).moments) }
     ensures did { (F.view folder.old).told → result ≡ Cached.Hit value
         → (c : List ℕ) (n : ℕ) (ps : Members) (calls : ℕ) → key.now.0 ≡ key_of ps
         → HasFound (asked memory.now name.now c n ps)
@@ -181,16 +202,40 @@ fn computed<F: Folder>(
     requires value_proper { IsProperTree (tree_of value) }
     requires duration { IsMoment duration }
     requires moment { IsMoment moment }
-    ensures lawful { (F.view folder.old).told → (answer : Answers) → answer code.now args.now ≡ value_is (tree_of value) → CallsFolder (IsLawful (root_of memory.now.location) answer) (IsLawful (root_of memory.now.location) answer) (IsAnswering result (entry_in memory.now name.now (key_of args.now)) (F.view folder.old).token)
-        (IsSound (root_of memory.now.location) answer) (IsSound (root_of memory.now.location) answer) (F.view folder.old) (F.view folder.new) }
+    ensures lawful { (F.view folder.old).told → (answer : Answers)
+        → answer code.now args.now ≡ value_is (tree_of value)
+        → CallsFolder (IsLawful (root_of memory.now.location) answer)
+        (IsLawful (root_of memory.now.location) answer) (IsAnswering result
+        (entry_in memory.now name.now (key_of args.now)) (F.view folder.old).token)
+        (IsSound (root_of memory.now.location) answer)
+        (IsSound (root_of memory.now.location) answer) (F.view folder.old) (F.view folder.new) }
     ensures computed { (result ≡ Cached.Computed value) ⊎ (result ≡ Cached.NoMemory) }
-    ensures puts { (F.view folder.old).told → CallsFolder (IsProper (root_of memory.now.location)) (PutsEntry (entry_in memory.now name.now (key_of args.now)) (texts_of code.now args.now (tree_of value) duration moment)) (IsAnswering result (entry_in memory.now name.now (key_of args.now)) (F.view folder.old).token)
+    ensures puts { (F.view folder.old).told
+        → CallsFolder (IsProper (root_of memory.now.location)) (PutsEntry
+        (entry_in memory.now name.now (key_of args.now))
+        (texts_of code.now args.now (tree_of value) duration moment)) (IsAnswering result
+        (entry_in memory.now name.now (key_of args.now)) (F.view folder.old).token)
         (IsTidy (root_of memory.now.location)) Anywhere (F.view folder.old) (F.view folder.new) }
-    ensures order { (F.view folder.old).told → InOrder (IsMakingEntry (entry_in memory.now name.now (key_of args.now))) (entry_in memory.now name.now (key_of args.now)) (F.view folder.old).token (moved (F.view folder.old) (F.view folder.new)) }
-    ensures warns { (n : ℕ) → WarnsFrom (HasFunction (asked memory.now name.now code.now n args.now)) (asked memory.now name.now code.now n args.now) warnings.old.items warnings.new.items (F.view folder.old) (F.view folder.new) }
-    ensures done { (F.view folder.old).told → result ≡ Cached.Computed value → PartDone OfKeeping (HasPutAll (entry_in memory.now name.now (key_of args.now)) (F.view folder.old).token (moved (F.view folder.old) (F.view folder.new))) warnings.old.items warnings.new.items }
-    ensures alone { (F.view folder.old).told → IsLone (F.view folder.old).token (moved (F.view folder.old) (F.view folder.new)) → IsReadyToKeep (entry_in memory.now name.now (key_of args.now)) (state (F.view folder.old)) → (Rose (F.view folder.old).faults (F.view folder.new).faults → ⊥) → result ≡ Cached.Computed value →
-        HasEntry (entry_in memory.now name.now (key_of args.now)) (F.view folder.old).token (texts_of code.now args.now (tree_of value) duration moment) (state (F.view folder.old)) (state (F.view folder.new)) }
+    ensures order { (F.view folder.old).told
+        → InOrder (IsMakingEntry (entry_in memory.now name.now (key_of args.now)))
+        (entry_in memory.now name.now (key_of args.now)) (F.view folder.old).token
+        (moved (F.view folder.old) (F.view folder.new)) }
+    ensures warns { (n : ℕ)
+        → WarnsFrom (HasFunction (asked memory.now name.now code.now n args.now))
+        (asked memory.now name.now code.now n args.now) warnings.old.items warnings.new.items
+        (F.view folder.old) (F.view folder.new) }
+    ensures done { (F.view folder.old).told → result ≡ Cached.Computed value
+        → PartDone OfKeeping (HasPutAll (entry_in memory.now name.now (key_of args.now))
+        (F.view folder.old).token (moved (F.view folder.old) (F.view folder.new)))
+        warnings.old.items warnings.new.items }
+    ensures alone { (F.view folder.old).told
+        → IsLone (F.view folder.old).token (moved (F.view folder.old) (F.view folder.new))
+        → IsReadyToKeep (entry_in memory.now name.now (key_of args.now)) (state (F.view folder.old))
+        → (Rose (F.view folder.old).faults (F.view folder.new).faults → ⊥)
+        → result ≡ Cached.Computed value
+        → HasEntry (entry_in memory.now name.now (key_of args.now)) (F.view folder.old).token
+        (texts_of code.now args.now (tree_of value) duration moment) (state (F.view folder.old))
+        (state (F.view folder.new)) }
     ensures did { (F.view folder.old).told → result ≡ Cached.Computed value → (n : ℕ)
         → HasKept (asked memory.now name.now code.now n args.now) (tree_of value) duration moment
         warnings.old.items warnings.new.items (F.view folder.old) (F.view folder.new) }
@@ -228,17 +273,38 @@ fn missed<L: Library, F: Folder, H: Host>(
     requires proper { IsProperTree (args_tree args.now) }
     requires depth { nesting (args_tree args.now) ≤ 64 }
     requires size { length (text_of (args_tree args.now)) ≤ MOST_TEXT_BYTES }
-    ensures lawful { (F.view folder.old).told → CallsFolder (IsLawful (root_of memory.now.location) L.answer) (IsLawful (root_of memory.now.location) L.answer) (IsAnswering result (entry_in memory.now name.now (key_of args.now)) (F.view folder.old).token)
-        (IsSound (root_of memory.now.location) L.answer) (IsSound (root_of memory.now.location) L.answer) (F.view folder.old) (F.view folder.new) }
-    ensures missed { IsMissed result (L.answer code.now args.now) (L.calls lib.old) (L.calls lib.new) }
-    ensures puts { (F.view folder.old).told → (n : ℕ) → PutsAnswer result (asked memory.now name.now code.now n args.now) (H.view host.old) (F.view folder.old) (F.view folder.new) }
-    ensures order { (F.view folder.old).told → InOrder (IsMakingEntry (entry_in memory.now name.now (key_of args.now))) (entry_in memory.now name.now (key_of args.now)) (F.view folder.old).token (moved (F.view folder.old) (F.view folder.new)) }
-    ensures warns { (n : ℕ) → WarnsFrom (HasFunction (asked memory.now name.now code.now n args.now)) (asked memory.now name.now code.now n args.now) warnings.old.items warnings.new.items (F.view folder.old) (F.view folder.new) }
-    ensures done { (F.view folder.old).told → (n : ℕ) → KeepsOrWarns result (asked memory.now name.now code.now n args.now) (moved (F.view folder.old) (F.view folder.new)) warnings.old.items warnings.new.items }
-    ensures alone { (F.view folder.old).told → (n : ℕ) → IsLone (F.view folder.old).token (moved (F.view folder.old) (F.view folder.new)) → IsReadyToKeep (entry_in memory.now name.now (key_of args.now)) (state (F.view folder.old)) → (Rose (F.view folder.old).faults (F.view folder.new).faults → ⊥) →
-        (Stands (output_path (root_of memory.now.location) memory.now.«module» name.now args.now) code.now args.now (state (F.view folder.old)) → ⊥) →
-        (duration : ℕ) × (moment : ℕ) × AnswersAlone result (asked memory.now name.now code.now n args.now) duration moment (state (F.view folder.old)) (state (F.view folder.new))
-        × ((H.view host.old).told → AreTimed result duration moment (H.view host.old)) }
+    ensures lawful { (F.view folder.old).told
+        → CallsFolder (IsLawful (root_of memory.now.location) L.answer)
+        (IsLawful (root_of memory.now.location) L.answer) (IsAnswering result
+        (entry_in memory.now name.now (key_of args.now)) (F.view folder.old).token)
+        (IsSound (root_of memory.now.location) L.answer)
+        (IsSound (root_of memory.now.location) L.answer) (F.view folder.old) (F.view folder.new) }
+    ensures missed { IsMissed result (L.answer code.now args.now) (L.calls lib.old)
+        (L.calls lib.new) }
+    ensures puts { (F.view folder.old).told → (n : ℕ)
+        → PutsAnswer result (asked memory.now name.now code.now n args.now) (H.view host.old)
+        (F.view folder.old) (F.view folder.new) }
+    ensures order { (F.view folder.old).told
+        → InOrder (IsMakingEntry (entry_in memory.now name.now (key_of args.now)))
+        (entry_in memory.now name.now (key_of args.now)) (F.view folder.old).token
+        (moved (F.view folder.old) (F.view folder.new)) }
+    ensures warns { (n : ℕ)
+        → WarnsFrom (HasFunction (asked memory.now name.now code.now n args.now))
+        (asked memory.now name.now code.now n args.now) warnings.old.items warnings.new.items
+        (F.view folder.old) (F.view folder.new) }
+    ensures done { (F.view folder.old).told → (n : ℕ)
+        → KeepsOrWarns result (asked memory.now name.now code.now n args.now)
+        (moved (F.view folder.old) (F.view folder.new)) warnings.old.items warnings.new.items }
+    ensures alone { (F.view folder.old).told → (n : ℕ)
+        → IsLone (F.view folder.old).token (moved (F.view folder.old) (F.view folder.new))
+        → IsReadyToKeep (entry_in memory.now name.now (key_of args.now)) (state (F.view folder.old))
+        → (Rose (F.view folder.old).faults (F.view folder.new).faults → ⊥)
+        → (Stands (output_path (root_of memory.now.location) memory.now.«module» name.now args.now)
+        code.now args.now (state (F.view folder.old)) → ⊥)
+        → (duration : ℕ) × (moment : ℕ) × AnswersAlone result
+        (asked memory.now name.now code.now n args.now) duration moment (state (F.view folder.old))
+        (state (F.view folder.new)) ×
+        ((H.view host.old).told → AreTimed result duration moment (H.view host.old)) }
     ensures did { (F.view folder.old).told → (n : ℕ)
         → HasAnswered L.answer (asked memory.now name.now code.now n args.now) result
         (point (F.view folder.old) (H.view host.old) (L.calls lib.old) warnings.old.items)
@@ -291,18 +357,44 @@ fn answered<L: Library, F: Folder, H: Host>(
     requires depth { nesting (args_tree args.now) ≤ 64 }
     requires size { length (text_of (args_tree args.now)) ≤ MOST_TEXT_BYTES }
     requires key { key.now.0 ≡ key_of args.now }
-    ensures lawful { (F.view folder.old).told → CallsFolder (IsLawful (root_of memory.now.location) L.answer) (IsLawful (root_of memory.now.location) L.answer) (IsAnswering result (entry_in memory.now name.now (key_of args.now)) (F.view folder.old).token)
-        (IsSound (root_of memory.now.location) L.answer) (IsSound (root_of memory.now.location) L.answer) (F.view folder.old) (F.view folder.new) }
-    ensures puts { (F.view folder.old).told → (n : ℕ) → PutsAnswer result (asked memory.now name.now code.now n args.now) (H.view host.old) (F.view folder.old) (F.view folder.new) }
-    ensures order { (F.view folder.old).told → IsOrdered result (IsMakingEntry (entry_in memory.now name.now (key_of args.now))) (entry_in memory.now name.now (key_of args.now)) (F.view folder.old).token (moved (F.view folder.old) (F.view folder.new)) }
-    ensures warns { (n : ℕ) → WarnsFrom (HasFunction (asked memory.now name.now code.now n args.now)) (asked memory.now name.now code.now n args.now) warnings.old.items warnings.new.items (F.view folder.old) (F.view folder.new) }
-    ensures done { (F.view folder.old).told → (n : ℕ) → AnswersOrWarns result (asked memory.now name.now code.now n args.now) (state (F.view folder.old)) (moved (F.view folder.old) (F.view folder.new)) warnings.old.items warnings.new.items }
-    ensures alone { (F.view folder.old).told → (n : ℕ) → IsLone (F.view folder.old).token (moved (F.view folder.old) (F.view folder.new)) → IsReadyToKeep (entry_in memory.now name.now (key_of args.now)) (state (F.view folder.old)) → (Rose (F.view folder.old).faults (F.view folder.new).faults → ⊥) →
-        (duration : ℕ) × (moment : ℕ) × AnswersAlone result (asked memory.now name.now code.now n args.now) duration moment (state (F.view folder.old)) (state (F.view folder.new))
-        × ((H.view host.old).told → AreTimed result duration moment (H.view host.old)) }
-    ensures looks { (n : ℕ) → ComesBy result (asked memory.now name.now code.now n args.now) (F.view folder.old) (F.view folder.new) }
-    ensures tidy { (F.view folder.old).told → (n : ℕ) → IsOrderly (root_of memory.now.location) (F.view folder.old) (F.view folder.new) → ComesTidy result (asked memory.now name.now code.now n args.now) (F.view folder.old) (F.view folder.new) }
-    ensures answer { IsAnswer result (L.answer code.now args.now) (IsTrusted (root_of memory.now.location) L.answer (F.view folder.old) (F.view folder.new)) }
+    ensures lawful { (F.view folder.old).told
+        → CallsFolder (IsLawful (root_of memory.now.location) L.answer)
+        (IsLawful (root_of memory.now.location) L.answer) (IsAnswering result
+        (entry_in memory.now name.now (key_of args.now)) (F.view folder.old).token)
+        (IsSound (root_of memory.now.location) L.answer)
+        (IsSound (root_of memory.now.location) L.answer) (F.view folder.old) (F.view folder.new) }
+    ensures puts { (F.view folder.old).told → (n : ℕ)
+        → PutsAnswer result (asked memory.now name.now code.now n args.now) (H.view host.old)
+        (F.view folder.old) (F.view folder.new) }
+    ensures order { (F.view folder.old).told
+        → IsOrdered result (IsMakingEntry (entry_in memory.now name.now (key_of args.now)))
+        (entry_in memory.now name.now (key_of args.now)) (F.view folder.old).token
+        (moved (F.view folder.old) (F.view folder.new)) }
+    ensures warns { (n : ℕ)
+        → WarnsFrom (HasFunction (asked memory.now name.now code.now n args.now))
+        (asked memory.now name.now code.now n args.now) warnings.old.items warnings.new.items
+        (F.view folder.old) (F.view folder.new) }
+    ensures done { (F.view folder.old).told → (n : ℕ)
+        → AnswersOrWarns result (asked memory.now name.now code.now n args.now)
+        (state (F.view folder.old)) (moved (F.view folder.old) (F.view folder.new))
+        warnings.old.items warnings.new.items }
+    ensures alone { (F.view folder.old).told → (n : ℕ)
+        → IsLone (F.view folder.old).token (moved (F.view folder.old) (F.view folder.new))
+        → IsReadyToKeep (entry_in memory.now name.now (key_of args.now)) (state (F.view folder.old))
+        → (Rose (F.view folder.old).faults (F.view folder.new).faults → ⊥)
+        → (duration : ℕ) × (moment : ℕ) × AnswersAlone result
+        (asked memory.now name.now code.now n args.now) duration moment (state (F.view folder.old))
+        (state (F.view folder.new)) ×
+        ((H.view host.old).told → AreTimed result duration moment (H.view host.old)) }
+    ensures looks { (n : ℕ)
+        → ComesBy result (asked memory.now name.now code.now n args.now) (F.view folder.old)
+        (F.view folder.new) }
+    ensures tidy { (F.view folder.old).told → (n : ℕ)
+        → IsOrderly (root_of memory.now.location) (F.view folder.old) (F.view folder.new)
+        → ComesTidy result (asked memory.now name.now code.now n args.now) (F.view folder.old)
+        (F.view folder.new) }
+    ensures answer { IsAnswer result (L.answer code.now args.now)
+        (IsTrusted (root_of memory.now.location) L.answer (F.view folder.old) (F.view folder.new)) }
     ensures calls { CountsCall result (L.calls lib.old) (L.calls lib.new) }
     ensures did { (F.view folder.old).told → (n : ℕ) → IfAnswered result
         (AnswerDid L.answer (asked memory.now name.now code.now n args.now) result
@@ -341,29 +433,66 @@ pub fn call_cached<L: Library, F: Folder, H: Host>(
     requires depth { nesting (args_tree args.now) ≤ 64 }
     requires size { length (text_of (args_tree args.now)) ≤ MOST_TEXT_BYTES }
     // Lawful throughout, whatever others do, and its own moves are those of its answer.
-    ensures lawful { (F.view folder.old).told → CallsFolder (IsLawful (root_of memory.now.location) L.answer) (IsLawful (root_of memory.now.location) L.answer) (IsCalling result (entry_in memory.now name.now (key_of args.now)) (F.view folder.old).token)
-        (IsSound (root_of memory.now.location) L.answer) (IsSound (root_of memory.now.location) L.answer) (F.view folder.old) (F.view folder.new) }
+    ensures lawful { (F.view folder.old).told
+        → CallsFolder (IsLawful (root_of memory.now.location) L.answer)
+        (IsLawful (root_of memory.now.location) L.answer) (IsCalling result
+        (entry_in memory.now name.now (key_of args.now)) (F.view folder.old).token)
+        (IsSound (root_of memory.now.location) L.answer)
+        (IsSound (root_of memory.now.location) L.answer) (F.view folder.old) (F.view folder.new) }
     // Each file that it puts in place has the text of this code, or that of its entry for one value, duration and moment; of these the answer and the clock tell.
-    ensures puts { (c : List ℕ) (n : ℕ) → L.code (L.loaded lib.old) name.now ≡ Some c → L.line (L.loaded lib.old) name.now ≡ n → (F.view folder.old).told → PutsFiles result (asked memory.now name.now c n args.now) (H.view host.old) (F.view folder.old) (F.view folder.new) }
+    ensures puts { (c : List ℕ) (n : ℕ) → L.code (L.loaded lib.old) name.now ≡ Some c
+        → L.line (L.loaded lib.old) name.now ≡ n → (F.view folder.old).told
+        → PutsFiles result (asked memory.now name.now c n args.now) (H.view host.old)
+        (F.view folder.old) (F.view folder.new) }
     // A value that was computed is kept in order: the output, the metadata, the last access.
-    ensures order { (F.view folder.old).told → IsOrdered result (IsBeforeOutput (entry_in memory.now name.now (key_of args.now)) (F.view folder.old).token) (entry_in memory.now name.now (key_of args.now)) (F.view folder.old).token (moved (F.view folder.old) (F.view folder.new)) }
+    ensures order { (F.view folder.old).told
+        → IsOrdered result (IsBeforeOutput (entry_in memory.now name.now (key_of args.now))
+        (F.view folder.old).token) (entry_in memory.now name.now (key_of args.now))
+        (F.view folder.old).token (moved (F.view folder.old) (F.view folder.new)) }
     // Entries are cleared only where the code's file held another code.
-    ensures clears { (c : List ℕ) → L.code (L.loaded lib.old) name.now ≡ Some c → (F.view folder.old).told → ClearsOnlyAnothers result (entry_in memory.now name.now (key_of args.now)) c (F.view folder.old) (F.view folder.new) }
+    ensures clears { (c : List ℕ) → L.code (L.loaded lib.old) name.now ≡ Some c
+        → (F.view folder.old).told
+        → ClearsOnlyAnothers result (entry_in memory.now name.now (key_of args.now)) c
+        (F.view folder.old) (F.view folder.new) }
     // A value or an error is the library's answer; of a value that was found this rests on the folder.
-    ensures answer { (c : List ℕ) → L.code (L.loaded lib.old) name.now ≡ Some c → IsAnswer result (L.answer c args.now) (IsTrusted (root_of memory.now.location) L.answer (F.view folder.old) (F.view folder.new)) }
+    ensures answer { (c : List ℕ) → L.code (L.loaded lib.old) name.now ≡ Some c
+        → IsAnswer result (L.answer c args.now)
+        (IsTrusted (root_of memory.now.location) L.answer (F.view folder.old) (F.view folder.new)) }
     ensures calls { CountsCall result (L.calls lib.old) (L.calls lib.new) }
     // A value was found where its entry was opened, and else the function was called.
-    ensures looks { (c : List ℕ) (n : ℕ) → L.code (L.loaded lib.old) name.now ≡ Some c → L.line (L.loaded lib.old) name.now ≡ n → ComesBy result (asked memory.now name.now c n args.now) (F.view folder.old) (F.view folder.new) }
-    ensures tidy { (c : List ℕ) (n : ℕ) → L.code (L.loaded lib.old) name.now ≡ Some c → L.line (L.loaded lib.old) name.now ≡ n → (F.view folder.old).told → IsOrderly (root_of memory.now.location) (F.view folder.old) (F.view folder.new) → ComesTidy result (asked memory.now name.now c n args.now) (F.view folder.old) (F.view folder.new) }
+    ensures looks { (c : List ℕ) (n : ℕ) → L.code (L.loaded lib.old) name.now ≡ Some c
+        → L.line (L.loaded lib.old) name.now ≡ n
+        → ComesBy result (asked memory.now name.now c n args.now) (F.view folder.old)
+        (F.view folder.new) }
+    ensures tidy { (c : List ℕ) (n : ℕ) → L.code (L.loaded lib.old) name.now ≡ Some c
+        → L.line (L.loaded lib.old) name.now ≡ n → (F.view folder.old).told
+        → IsOrderly (root_of memory.now.location) (F.view folder.old) (F.view folder.new)
+        → ComesTidy result (asked memory.now name.now c n args.now) (F.view folder.old)
+        (F.view folder.new) }
     // Each warning is on this call, and has its cause.
-    ensures warns { (c : List ℕ) (n : ℕ) → L.code (L.loaded lib.old) name.now ≡ Some c → L.line (L.loaded lib.old) name.now ≡ n → Warns (asked memory.now name.now c n args.now) warnings.old.items warnings.new.items (F.view folder.old) (F.view folder.new) }
+    ensures warns { (c : List ℕ) (n : ℕ) → L.code (L.loaded lib.old) name.now ≡ Some c
+        → L.line (L.loaded lib.old) name.now ≡ n
+        → Warns (asked memory.now name.now c n args.now) warnings.old.items warnings.new.items
+        (F.view folder.old) (F.view folder.new) }
     // Each part was done or warned of: the code's file was right or put in place, a value was found or there was no output, and its entry was renewed or a new one put in place.
-    ensures done { (c : List ℕ) (n : ℕ) → L.code (L.loaded lib.old) name.now ≡ Some c → L.line (L.loaded lib.old) name.now ≡ n → (F.view folder.old).told → DoesOrWarns result (asked memory.now name.now c n args.now) warnings.old.items warnings.new.items (F.view folder.old) (F.view folder.new) }
+    ensures done { (c : List ℕ) (n : ℕ) → L.code (L.loaded lib.old) name.now ≡ Some c
+        → L.line (L.loaded lib.old) name.now ≡ n → (F.view folder.old).told
+        → DoesOrWarns result (asked memory.now name.now c n args.now) warnings.old.items
+        warnings.new.items (F.view folder.old) (F.view folder.new) }
     // Where no other moved and no fault rose, it leaves the folder so: the code checked, and then the answer found or kept.
-    ensures alone { (F.view folder.old).told → (c : List ℕ) (n : ℕ) → L.code (L.loaded lib.old) name.now ≡ Some c → L.line (L.loaded lib.old) name.now ≡ n → IsLone (F.view folder.old).token (moved (F.view folder.old) (F.view folder.new)) → IsTidy (root_of memory.now.location) (state (F.view folder.old)) → (Rose (F.view folder.old).faults (F.view folder.new).faults → ⊥) →
-        (duration : ℕ) × (moment : ℕ) × LeavesNext result (asked memory.now name.now c n args.now) duration moment (state (F.view folder.old)) (state (F.view folder.new))
-        × ((H.view host.old).told → AreTimed result duration moment (H.view host.old)) }
-    ensures quiet { (F.view folder.old).told → IsLone (F.view folder.old).token (moved (F.view folder.old) (F.view folder.new)) → IsSound (root_of memory.now.location) L.answer (state (F.view folder.old)) → (Rose (F.view folder.old).faults (F.view folder.new).faults → ⊥) → WarnsOfOthers warnings.old.items warnings.new.items }
+    ensures alone { (F.view folder.old).told → (c : List ℕ) (n : ℕ)
+        → L.code (L.loaded lib.old) name.now ≡ Some c → L.line (L.loaded lib.old) name.now ≡ n
+        → IsLone (F.view folder.old).token (moved (F.view folder.old) (F.view folder.new))
+        → IsTidy (root_of memory.now.location) (state (F.view folder.old))
+        → (Rose (F.view folder.old).faults (F.view folder.new).faults → ⊥)
+        → (duration : ℕ) × (moment : ℕ) × LeavesNext result (asked memory.now name.now c n args.now)
+        duration moment (state (F.view folder.old)) (state (F.view folder.new)) ×
+        ((H.view host.old).told → AreTimed result duration moment (H.view host.old)) }
+    ensures quiet { (F.view folder.old).told
+        → IsLone (F.view folder.old).token (moved (F.view folder.old) (F.view folder.new))
+        → IsSound (root_of memory.now.location) L.answer (state (F.view folder.old))
+        → (Rose (F.view folder.old).faults (F.view folder.new).faults → ⊥)
+        → WarnsOfOthers warnings.old.items warnings.new.items }
     // The same as its three parts, with what stood between them.
     ensures did { (c : List ℕ) (n : ℕ) → L.code (L.loaded lib.old) name.now ≡ Some c
         → L.line (L.loaded lib.old) name.now ≡ n → (F.view folder.old).told

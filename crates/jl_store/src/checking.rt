@@ -1,5 +1,5 @@
 // Checking that a function's entries are of its code.
-ghost use Rattle.std.specs.Prelude.{◌≡◌, ◌≢◌, ◌⊎◌, ◌≤◌, true, Some, length, IsTrue, IfOk};
+ghost use Rattle.std.specs.Prelude.{◌≡◌, ◌≢◌, ◌⊎◌, ◌≤◌, ◌∷◌, [], true, Some, length, IsTrue, IfOk};
 ghost use Rattle.jl_text.specs.Paths.{PathView};
 ghost use Rattle.jl_text.specs.Texts.{is_name};
 ghost use Rattle.jl_text.specs.Counts.{Rose};
@@ -22,6 +22,7 @@ ghost use Rattle.jl_store.specs.Kinds.{IsFor, PutsThis, UsesNames};
 ghost use Rattle.jl_store.specs.Next.{ChecksAlone};
 ghost use Rattle.jl_store.specs.Publishing.{IsOfFile, IsPublished};
 ghost use Rattle.jl_store.specs.Checking.{IsHeld, Holds, AreFiles, IsDone, Stores, MovesFor, Comes, UsesCode, SkipsFor, Checks, IsChecking, check_of, function_path, code_path, code_temp};
+ghost use Rattle.jl_store.specs.Renames.{PutsInTurn};
 ghost use Rattle.jl_store.specs.Warned.{IsOrderly};
 
 use crate::checks::{CodeCheck, CodeFiles, Held};
@@ -186,6 +187,10 @@ pub fn check_code<F: Folder>(
         (code_path (root_of memory.now.location) memory.now.«module» name.now)
         (code_temp (root_of memory.now.location) memory.now.«module» name.now memory.now.token))
         (IsTidy (root_of memory.now.location)) Anywhere (F.view folder.old) (F.view folder.new) }
+    // Its final name is put in place at most once.
+    ensures once { (F.view folder.old).told
+        → PutsInTurn (code_path (root_of memory.now.location) memory.now.«module» name.now ∷ [])
+        (F.view folder.old).token (moved (F.view folder.old) (F.view folder.new)) }
     ensures lawful { (F.view folder.old).told → (answer : Answers) →
         LawfulThroughout (root_of memory.now.location) answer memory.now.token (state (F.view folder.old)) (moved (F.view folder.old) (F.view folder.new)) }
     // What the answer tells of the code's file at its opening, and of the own moves.

@@ -1,5 +1,5 @@
 // Publishing a final file.
-ghost use Rattle.std.specs.Prelude.{◌≡◌, ◌≢◌, ◌++◌, [], ℕ, List, true, false, Some};
+ghost use Rattle.std.specs.Prelude.{◌≡◌, ◌≢◌, ◌++◌, [], ℕ, List, true, false, Some, ◌∷◌};
 ghost use Rattle.jl_text.specs.Paths.{PathView};
 ghost use Rattle.jl_folder.specs.State.{State, closed, is_folder, has_parent, place_at};
 ghost use Rattle.jl_folder.specs.Views.{FolderAnswers, FolderTurns, state, moved};
@@ -15,6 +15,7 @@ ghost use Rattle.jl_protocol.specs.Whole.{IsWhole};
 ghost use Rattle.jl_protocol.specs.Proper.{IsProper};
 ghost use Rattle.jl_protocol.specs.Owned.{IsOwnFile};
 ghost use Rattle.jl_store.specs.Kinds.{IsAppend, IsFor, PutsThis, UsesNames};
+ghost use Rattle.jl_store.specs.Renames.{PutsInTurn};
 ghost use Rattle.jl_store.specs.Publishing.{CallsOn, BytesLeft, EndsIn, Publishes, IsOfFile, IsDraft, IsPublished, BytesAlone};
 
 use crate::temporary::{TempFile, abandon, create_temp};
@@ -43,11 +44,18 @@ fn append_all<F: Folder>(folder: &mut F, number: FileNo, bytes: &[u8]) -> Wrote
     requires { IsMade (F.view folder.old).opens number.0 }
     ensures goes { (F.view folder.old).told → GoesOn (F.view folder.old) (F.view folder.new) }
     ensures frame { FolderAnswers (result ≡ Wrote.Fault) (F.view folder.old) (F.view folder.new) }
-    ensures called { (F.view folder.old).told → (file : OpenFile) → (F.view folder.old).opens number.0 ≡ Some file → (temp : PathView) (start : List ℕ) →
-        CallsOn temp IsAppend (λ root. IsOwnFile (F.view folder.old).token temp file.node start) (λ root. BytesLeft (F.view folder.old).token temp file.node (start ++ bytes.now) result) (F.view folder.old) (F.view folder.new) }
-    ensures alone { (F.view folder.old).told → (file : OpenFile) → (F.view folder.old).opens number.0 ≡ Some file → (temp : PathView) (start : List ℕ) (before : State) →
-        IsLone (F.view folder.old).token (moved (F.view folder.old) (F.view folder.new)) → IsDraft (F.view folder.old).token temp file.node start before (state (F.view folder.old)) →
-        BytesAlone (F.view folder.old).token temp file.node (start ++ bytes.now) result before (state (F.view folder.new)) }
+    ensures called { (F.view folder.old).told → (file : OpenFile)
+        → (F.view folder.old).opens number.0 ≡ Some file → (temp : PathView) (start : List ℕ)
+        → CallsOn temp IsAppend (λ root. IsOwnFile (F.view folder.old).token temp file.node start)
+        (λ root. BytesLeft (F.view folder.old).token temp file.node (start ++ bytes.now) result)
+        (F.view folder.old) (F.view folder.new) }
+    ensures alone { (F.view folder.old).told → (file : OpenFile)
+        → (F.view folder.old).opens number.0 ≡ Some file
+        → (temp : PathView) (start : List ℕ) (before : State)
+        → IsLone (F.view folder.old).token (moved (F.view folder.old) (F.view folder.new))
+        → IsDraft (F.view folder.old).token temp file.node start before (state (F.view folder.old))
+        → BytesAlone (F.view folder.old).token temp file.node (start ++ bytes.now) result before
+        (state (F.view folder.new)) }
 {
     let mut at = 0;
     while at < bytes.len() {
@@ -67,11 +75,18 @@ fn fill<F: Folder>(folder: &mut F, number: FileNo, bytes: &[u8]) -> Wrote
     ensures goes { (F.view folder.old).told → GoesOn (F.view folder.old) (F.view folder.new) }
     ensures opens { (F.view folder.new).opens ≡ closed (F.view folder.old).opens number.0 }
     ensures frame { FolderTurns (result ≡ Wrote.Fault) (F.view folder.old) (F.view folder.new) }
-    ensures called { (F.view folder.old).told → (file : OpenFile) → (F.view folder.old).opens number.0 ≡ Some file → (temp : PathView) (start : List ℕ) →
-        CallsOn temp IsAppend (λ root. IsOwnFile (F.view folder.old).token temp file.node start) (λ root. BytesLeft (F.view folder.old).token temp file.node (start ++ bytes.now) result) (F.view folder.old) (F.view folder.new) }
-    ensures alone { (F.view folder.old).told → (file : OpenFile) → (F.view folder.old).opens number.0 ≡ Some file → (temp : PathView) (start : List ℕ) (before : State) →
-        IsLone (F.view folder.old).token (moved (F.view folder.old) (F.view folder.new)) → IsDraft (F.view folder.old).token temp file.node start before (state (F.view folder.old)) →
-        BytesAlone (F.view folder.old).token temp file.node (start ++ bytes.now) result before (state (F.view folder.new)) }
+    ensures called { (F.view folder.old).told → (file : OpenFile)
+        → (F.view folder.old).opens number.0 ≡ Some file → (temp : PathView) (start : List ℕ)
+        → CallsOn temp IsAppend (λ root. IsOwnFile (F.view folder.old).token temp file.node start)
+        (λ root. BytesLeft (F.view folder.old).token temp file.node (start ++ bytes.now) result)
+        (F.view folder.old) (F.view folder.new) }
+    ensures alone { (F.view folder.old).told → (file : OpenFile)
+        → (F.view folder.old).opens number.0 ≡ Some file
+        → (temp : PathView) (start : List ℕ) (before : State)
+        → IsLone (F.view folder.old).token (moved (F.view folder.old) (F.view folder.new))
+        → IsDraft (F.view folder.old).token temp file.node start before (state (F.view folder.old))
+        → BytesAlone (F.view folder.old).token temp file.node (start ++ bytes.now) result before
+        (state (F.view folder.new)) }
 {
     let wrote = append_all(folder, number, bytes);
     folder.close(number);
@@ -82,16 +97,33 @@ fn fill<F: Folder>(folder: &mut F, number: FileNo, bytes: &[u8]) -> Wrote
 fn put_in_place<F: Folder>(folder: &mut F, last: &Path, temp: &Path) -> Published
     requires { temp.now ≢ last.now }
     ensures goes { (F.view folder.old).told → GoesOn (F.view folder.old) (F.view folder.new) }
-    ensures frame { FolderAnswers (result ≡ Published.Fault) (F.view folder.old) (F.view folder.new) }
-    ensures called { (F.view folder.old).told → (root : PathView) (x : Final) (n : ℕ) (bytes : List ℕ) → IsTemp root x (F.view folder.old).token temp.now → IsFinal root x last.now → IsWhole x bytes →
-        Called (IsProper root) (PutsThis root last.now bytes) (IsFor last.now temp.now) (IsOwnFile (F.view folder.old).token temp.now n bytes) Anywhere (F.view folder.old) (F.view folder.new) }
-    ensures done { (F.view folder.old).told → result ≡ Published.Done → EndsIn ((F.view folder.old).token, Move.Rename temp.now last.now) (moved (F.view folder.old) (F.view folder.new)) }
-    ensures skipped { (F.view folder.old).told → result ≡ Published.Skipped → (n : ℕ) → place_at (state (F.view folder.old)) temp.now ≡ Some (Place.File n) →
-        is_folder (state (F.view folder.old)) last.now ≡ false → has_parent (state (F.view folder.old)) last.now ≡ true →
-        TouchedByOther (F.view folder.old).token (UsesNames last.now temp.now) (moved (F.view folder.old) (F.view folder.new)) }
-    ensures alone { (F.view folder.old).told → result ≡ Published.Done → (n : ℕ) (bytes : List ℕ) (before : State) →
-        IsLone (F.view folder.old).token (moved (F.view folder.old) (F.view folder.new)) → IsDraft (F.view folder.old).token temp.now n bytes before (state (F.view folder.old)) →
-        IsPublished last.now temp.now bytes before (state (F.view folder.new)) }
+    ensures frame { FolderAnswers (result ≡ Published.Fault) (F.view folder.old)
+        (F.view folder.new) }
+    ensures called { (F.view folder.old).told
+        → (root : PathView) (x : Final) (n : ℕ) (bytes : List ℕ)
+        → IsTemp root x (F.view folder.old).token temp.now → IsFinal root x last.now
+        → IsWhole x bytes
+        → Called (IsProper root) (PutsThis root last.now bytes) (IsFor last.now temp.now)
+        (IsOwnFile (F.view folder.old).token temp.now n bytes) Anywhere (F.view folder.old)
+        (F.view folder.new) }
+    ensures once { (F.view folder.old).told → (root : PathView) (x : Final)
+        → IsTemp root x (F.view folder.old).token temp.now
+        → PutsInTurn (last.now ∷ []) (F.view folder.old).token
+        (moved (F.view folder.old) (F.view folder.new)) }
+    ensures done { (F.view folder.old).told → result ≡ Published.Done
+        → EndsIn ((F.view folder.old).token, Move.Rename temp.now last.now)
+        (moved (F.view folder.old) (F.view folder.new)) }
+    ensures skipped { (F.view folder.old).told → result ≡ Published.Skipped → (n : ℕ)
+        → place_at (state (F.view folder.old)) temp.now ≡ Some (Place.File n)
+        → is_folder (state (F.view folder.old)) last.now ≡ false
+        → has_parent (state (F.view folder.old)) last.now ≡ true
+        → TouchedByOther (F.view folder.old).token (UsesNames last.now temp.now)
+        (moved (F.view folder.old) (F.view folder.new)) }
+    ensures alone { (F.view folder.old).told → result ≡ Published.Done
+        → (n : ℕ) (bytes : List ℕ) (before : State)
+        → IsLone (F.view folder.old).token (moved (F.view folder.old) (F.view folder.new))
+        → IsDraft (F.view folder.old).token temp.now n bytes before (state (F.view folder.old))
+        → IsPublished last.now temp.now bytes before (state (F.view folder.new)) }
 {
     match folder.rename(temp, last) {
         Renamed::Done => Published::Done,
@@ -119,16 +151,35 @@ fn publish_open<F: Folder>(
     ensures goes { (F.view folder.old).told → GoesOn (F.view folder.old) (F.view folder.new) }
     ensures opens { (F.view folder.new).opens ≡ closed (F.view folder.old).opens number.0 }
     ensures frame { FolderTurns (result ≡ Published.Fault) (F.view folder.old) (F.view folder.new) }
-    ensures called { (F.view folder.old).told → (file : OpenFile) → (F.view folder.old).opens number.0 ≡ Some file →
-        (root : PathView) (x : Final) → IsTemp root x (F.view folder.old).token temp.now → IsFinal root x last.now → IsWhole x bytes.now →
-        Called (IsProper root) (PutsThis root last.now bytes.now) (IsFor last.now temp.now) (IsOwnFile (F.view folder.old).token temp.now file.node []) Anywhere (F.view folder.old) (F.view folder.new) }
-    ensures done { (F.view folder.old).told → result ≡ Published.Done → EndsIn ((F.view folder.old).token, Move.Rename temp.now last.now) (moved (F.view folder.old) (F.view folder.new)) }
-    ensures skipped { (F.view folder.old).told → result ≡ Published.Skipped → (root : PathView) (x : Final) → IsTemp root x (F.view folder.old).token temp.now → IsFinal root x last.now → (file : OpenFile) → (F.view folder.old).opens number.0 ≡ Some file → (n : ℕ) → place_at (state (F.view folder.old)) temp.now ≡ Some (Place.File n) →
-        is_folder (state (F.view folder.old)) last.now ≡ false → has_parent (state (F.view folder.old)) last.now ≡ true →
-        TouchedByOther (F.view folder.old).token (UsesNames last.now temp.now) (moved (F.view folder.old) (F.view folder.new)) }
-    ensures alone { (F.view folder.old).told → result ≡ Published.Done → (file : OpenFile) → (F.view folder.old).opens number.0 ≡ Some file → (before : State) →
-        IsLone (F.view folder.old).token (moved (F.view folder.old) (F.view folder.new)) → IsDraft (F.view folder.old).token temp.now file.node [] before (state (F.view folder.old)) →
-        IsPublished last.now temp.now bytes.now before (state (F.view folder.new)) }
+    ensures called { (F.view folder.old).told → (file : OpenFile)
+        → (F.view folder.old).opens number.0 ≡ Some file → (root : PathView) (x : Final)
+        → IsTemp root x (F.view folder.old).token temp.now → IsFinal root x last.now
+        → IsWhole x bytes.now
+        → Called (IsProper root) (PutsThis root last.now bytes.now) (IsFor last.now temp.now)
+        (IsOwnFile (F.view folder.old).token temp.now file.node []) Anywhere (F.view folder.old)
+        (F.view folder.new) }
+    ensures once { (F.view folder.old).told → (file : OpenFile)
+        → (F.view folder.old).opens number.0 ≡ Some file → (root : PathView) (x : Final)
+        → IsTemp root x (F.view folder.old).token temp.now
+        → PutsInTurn (last.now ∷ []) (F.view folder.old).token
+        (moved (F.view folder.old) (F.view folder.new)) }
+    ensures done { (F.view folder.old).told → result ≡ Published.Done
+        → EndsIn ((F.view folder.old).token, Move.Rename temp.now last.now)
+        (moved (F.view folder.old) (F.view folder.new)) }
+    ensures skipped { (F.view folder.old).told → result ≡ Published.Skipped
+        → (root : PathView) (x : Final) → IsTemp root x (F.view folder.old).token temp.now
+        → IsFinal root x last.now → (file : OpenFile)
+        → (F.view folder.old).opens number.0 ≡ Some file → (n : ℕ)
+        → place_at (state (F.view folder.old)) temp.now ≡ Some (Place.File n)
+        → is_folder (state (F.view folder.old)) last.now ≡ false
+        → has_parent (state (F.view folder.old)) last.now ≡ true
+        → TouchedByOther (F.view folder.old).token (UsesNames last.now temp.now)
+        (moved (F.view folder.old) (F.view folder.new)) }
+    ensures alone { (F.view folder.old).told → result ≡ Published.Done → (file : OpenFile)
+        → (F.view folder.old).opens number.0 ≡ Some file → (before : State)
+        → IsLone (F.view folder.old).token (moved (F.view folder.old) (F.view folder.new))
+        → IsDraft (F.view folder.old).token temp.now file.node [] before (state (F.view folder.old))
+        → IsPublished last.now temp.now bytes.now before (state (F.view folder.new)) }
 {
     match fill(folder, number, bytes) {
         Wrote::All => put_in_place(folder, last, temp),
@@ -145,12 +196,20 @@ fn publish_open<F: Folder>(
 pub fn publish<F: Folder>(folder: &mut F, last: &Path, temp: &Path, bytes: &[u8]) -> Published
     requires { IsOfFile (F.view folder.old).token last.now temp.now bytes.now }
     ensures goes { (F.view folder.old).told → GoesOn (F.view folder.old) (F.view folder.new) }
-    ensures frame { FolderAnswers (result ≡ Published.Fault) (F.view folder.old) (F.view folder.new) }
-    ensures called { (F.view folder.old).told → (root : PathView) (x : Final) → IsTemp root x (F.view folder.old).token temp.now → IsFinal root x last.now → IsWhole x bytes.now →
-        Publishes root last.now temp.now bytes.now result (F.view folder.old) (F.view folder.new) }
-    ensures done { (F.view folder.old).told → result ≡ Published.Done → EndsIn ((F.view folder.old).token, Move.Rename temp.now last.now) (moved (F.view folder.old) (F.view folder.new)) }
-    ensures alone { (F.view folder.old).told → result ≡ Published.Done → IsLone (F.view folder.old).token (moved (F.view folder.old) (F.view folder.new)) →
-        IsPublished last.now temp.now bytes.now (state (F.view folder.old)) (state (F.view folder.new)) }
+    ensures frame { FolderAnswers (result ≡ Published.Fault) (F.view folder.old)
+        (F.view folder.new) }
+    ensures called { (F.view folder.old).told → (root : PathView) (x : Final)
+        → IsTemp root x (F.view folder.old).token temp.now → IsFinal root x last.now
+        → IsWhole x bytes.now
+        → Publishes root last.now temp.now bytes.now result (F.view folder.old)
+        (F.view folder.new) }
+    ensures done { (F.view folder.old).told → result ≡ Published.Done
+        → EndsIn ((F.view folder.old).token, Move.Rename temp.now last.now)
+        (moved (F.view folder.old) (F.view folder.new)) }
+    ensures alone { (F.view folder.old).told → result ≡ Published.Done
+        → IsLone (F.view folder.old).token (moved (F.view folder.old) (F.view folder.new))
+        → IsPublished last.now temp.now bytes.now (state (F.view folder.old))
+        (state (F.view folder.new)) }
 {
     match create_temp(folder, temp) {
         TempFile::File(number) => publish_open(folder, number, last, temp, bytes),

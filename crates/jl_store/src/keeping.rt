@@ -16,7 +16,8 @@ ghost use Rattle.jl_protocol.specs.Whole.{IsWhole};
 ghost use Rattle.jl_clear.specs.Taking.{IsBeside};
 ghost use Rattle.jl_store.specs.Kinds.{UsesNames};
 ghost use Rattle.jl_store.specs.Publishing.{IsPublished};
-ghost use Rattle.jl_store.specs.Keeping.{entry_in, entry_path, function_path, file_of, last_of, temp_of, texts as texts_of, text_in, AreWhole, keep_of, made_of, IsKeepable, Keeps, KeepsFile, HasPutMoments, HasPutAll, IsMakingEntry, MomentsInOrder, InOrder, IsMoments, IsAnyFile, Entry, UsesEntry, IsReadyFor, AreReady, IsReadyToKeep, IsReadyToTouch, HasFiles, HasEntry};
+ghost use Rattle.jl_store.specs.Renames.{PutsInTurn};
+ghost use Rattle.jl_store.specs.Keeping.{entry_in, entry_path, function_path, file_of, last_of, temp_of, texts as texts_of, text_in, AreWhole, keep_of, made_of, IsKeepable, Keeps, KeepsFile, HasPutMoments, HasPutAll, IsMakingEntry, moments_of, lasts_of, MomentsInOrder, InOrder, IsMoments, IsAnyFile, Entry, UsesEntry, IsReadyFor, AreReady, IsReadyToKeep, IsReadyToTouch, HasFiles, HasEntry};
 ghost use Rattle.jl_store.specs.declared.keeping.EntryTexts.{EntryTexts};
 
 use crate::answer::Keep;
@@ -77,8 +78,10 @@ fn file_names(
 ) -> Result<FileNames, AllocError>
     requires module_name { IsTrue (is_name memory.now.«module») }
     requires function_name { IsTrue (is_name name.now) }
-    ensures last { IfOk result (λ n. IsFinal (root_of memory.now.location) (file_of (entry_in memory.now name.now key.now.0) file) n.last) }
-    ensures temp { IfOk result (λ n. IsTemp (root_of memory.now.location) (file_of (entry_in memory.now name.now key.now.0) file) memory.now.token n.temp) }
+    ensures last { IfOk result (λ n. IsFinal (root_of memory.now.location)
+        (file_of (entry_in memory.now name.now key.now.0) file) n.last) }
+    ensures temp { IfOk result (λ n. IsTemp (root_of memory.now.location)
+        (file_of (entry_in memory.now name.now key.now.0) file) memory.now.token n.temp) }
 {
     let module = memory.module.as_str();
     let last = entry_file(alloc, file, &memory.location, module, name, key)?;
@@ -102,12 +105,24 @@ fn keep_file<F: Folder>(
     requires whole { IsWhole (file_of (entry_in memory.now name.now key.now.0) file) bytes.now }
     ensures goes { (F.view folder.old).told → GoesOn (F.view folder.old) (F.view folder.new) }
     ensures frame { FolderAnswers (result ≡ Keep.Fault) (F.view folder.old) (F.view folder.new) }
-    ensures called { (F.view folder.old).told → IsWhole (file_of (entry_in memory.now name.now key.now.0) file) bytes.now →
-        KeepsFile (entry_in memory.now name.now key.now.0) file bytes.now (IsReadyFor (entry_in memory.now name.now key.now.0) (F.view folder.old).token file) result (F.view folder.old) (F.view folder.new) }
-    ensures tidy { (F.view folder.old).told → IsWhole (file_of (entry_in memory.now name.now key.now.0) file) bytes.now → result ≡ Keep.Skipped → IsReadyToTouch (entry_in memory.now name.now key.now.0) (state (F.view folder.old)) →
-        TouchedByOther (F.view folder.old).token (UsesNames (last_of (entry_in memory.now name.now key.now.0) file) (temp_of (entry_in memory.now name.now key.now.0) (F.view folder.old).token file)) (moved (F.view folder.old) (F.view folder.new)) }
-    ensures alone { (F.view folder.old).told → result ≡ Keep.Kept → IsLone (F.view folder.old).token (moved (F.view folder.old) (F.view folder.new)) →
-        IsPublished (last_of (entry_in memory.now name.now key.now.0) file) (temp_of (entry_in memory.now name.now key.now.0) (F.view folder.old).token file) bytes.now (state (F.view folder.old)) (state (F.view folder.new)) }
+    ensures called { (F.view folder.old).told
+        → IsWhole (file_of (entry_in memory.now name.now key.now.0) file) bytes.now
+        → KeepsFile (entry_in memory.now name.now key.now.0) file bytes.now
+        (IsReadyFor (entry_in memory.now name.now key.now.0) (F.view folder.old).token file) result
+        (F.view folder.old) (F.view folder.new) }
+    ensures tidy { (F.view folder.old).told
+        → IsWhole (file_of (entry_in memory.now name.now key.now.0) file) bytes.now
+        → result ≡ Keep.Skipped
+        → IsReadyToTouch (entry_in memory.now name.now key.now.0) (state (F.view folder.old))
+        → TouchedByOther (F.view folder.old).token (UsesNames
+        (last_of (entry_in memory.now name.now key.now.0) file)
+        (temp_of (entry_in memory.now name.now key.now.0) (F.view folder.old).token file))
+        (moved (F.view folder.old) (F.view folder.new)) }
+    ensures alone { (F.view folder.old).told → result ≡ Keep.Kept
+        → IsLone (F.view folder.old).token (moved (F.view folder.old) (F.view folder.new))
+        → IsPublished (last_of (entry_in memory.now name.now key.now.0) file)
+        (temp_of (entry_in memory.now name.now key.now.0) (F.view folder.old).token file) bytes.now
+        (state (F.view folder.old)) (state (F.view folder.new)) }
 {
     match file_names(alloc, memory, file, name, key) {
         Ok(names) => as_keep(publish(folder, &names.last, &names.temp, bytes)),
@@ -128,12 +143,24 @@ fn make_entry<F: Folder>(
     requires function_name { IsTrue (is_name name.now) }
     ensures goes { (F.view folder.old).told → GoesOn (F.view folder.old) (F.view folder.new) }
     ensures frame { FolderAnswers (result ≡ Keep.Fault) (F.view folder.old) (F.view folder.new) }
-    ensures makes { (F.view folder.old).told → OwnMoves (F.view folder.old).token (IsMakingEntry (entry_in memory.now name.now key.now.0)) (moved (F.view folder.old) (F.view folder.new)) }
-    ensures called { (F.view folder.old).told → (text : EntryFile → List ℕ) →
-        Keeps (entry_in memory.now name.now key.now.0) text (λ s. is_folder s (function_path (entry_in memory.now name.now key.now.0)) ≡ true) (λ steps. ⊤) result (F.view folder.old) (F.view folder.new) }
-    ensures ready { (F.view folder.old).told → result ≡ Keep.Kept → IsTidy (root_of memory.now.location) (state (F.view folder.old)) →
-        AreReady (entry_in memory.now name.now key.now.0) (F.view folder.old).token IsAnyFile (state (F.view folder.new)) ⊎ TouchedByOther (F.view folder.old).token (UsesEntry (entry_in memory.now name.now key.now.0) (F.view folder.old).token) (moved (F.view folder.old) (F.view folder.new)) }
-    ensures alone { (F.view folder.old).told → result ≡ Keep.Kept → IsLone (F.view folder.old).token (moved (F.view folder.old) (F.view folder.new)) → IsBeside (λ p. p ≡ entry_path (entry_in memory.now name.now key.now.0)) (state (F.view folder.old)) (state (F.view folder.new)) }
+    ensures makes { (F.view folder.old).told
+        → OwnMoves (F.view folder.old).token
+        (IsMakingEntry (entry_in memory.now name.now key.now.0))
+        (moved (F.view folder.old) (F.view folder.new)) }
+    ensures called { (F.view folder.old).told → (text : EntryFile → List ℕ)
+        → Keeps (entry_in memory.now name.now key.now.0) text
+        (λ s. is_folder s (function_path (entry_in memory.now name.now key.now.0)) ≡ true)
+        (λ steps. ⊤) result (F.view folder.old) (F.view folder.new) }
+    ensures ready { (F.view folder.old).told → result ≡ Keep.Kept
+        → IsTidy (root_of memory.now.location) (state (F.view folder.old))
+        → AreReady (entry_in memory.now name.now key.now.0) (F.view folder.old).token IsAnyFile
+        (state (F.view folder.new)) ⊎ TouchedByOther (F.view folder.old).token
+        (UsesEntry (entry_in memory.now name.now key.now.0) (F.view folder.old).token)
+        (moved (F.view folder.old) (F.view folder.new)) }
+    ensures alone { (F.view folder.old).told → result ≡ Keep.Kept
+        → IsLone (F.view folder.old).token (moved (F.view folder.old) (F.view folder.new))
+        → IsBeside (λ p. p ≡ entry_path (entry_in memory.now name.now key.now.0))
+        (state (F.view folder.old)) (state (F.view folder.new)) }
 {
     let _token = memory.token.as_str();
     match entry_folder(alloc, &memory.location, memory.module.as_str(), name, key) {
@@ -157,11 +184,23 @@ fn keep_moments<F: Folder>(
     requires whole { AreWhole (entry_in memory.now name.now key.now.0) (text_in texts.now) }
     ensures goes { (F.view folder.old).told → GoesOn (F.view folder.old) (F.view folder.new) }
     ensures frame { FolderAnswers (result ≡ Keep.Fault) (F.view folder.old) (F.view folder.new) }
-    ensures order { (F.view folder.old).told → MomentsInOrder (entry_in memory.now name.now key.now.0) (F.view folder.old).token (moved (F.view folder.old) (F.view folder.new)) }
-    ensures called { (F.view folder.old).told → AreWhole (entry_in memory.now name.now key.now.0) (text_in texts.now) →
-        Keeps (entry_in memory.now name.now key.now.0) (text_in texts.now) (AreReady (entry_in memory.now name.now key.now.0) (F.view folder.old).token IsMoments) (HasPutMoments (entry_in memory.now name.now key.now.0) (F.view folder.old).token) result (F.view folder.old) (F.view folder.new) }
-    ensures alone { (F.view folder.old).told → AreWhole (entry_in memory.now name.now key.now.0) (text_in texts.now) → result ≡ Keep.Kept → IsLone (F.view folder.old).token (moved (F.view folder.old) (F.view folder.new)) →
-        HasFiles (entry_in memory.now name.now key.now.0) (F.view folder.old).token (text_in texts.now) IsMoments (state (F.view folder.old)) (state (F.view folder.new)) }
+    ensures once { (F.view folder.old).told
+        → PutsInTurn (moments_of (entry_in memory.now name.now key.now.0)) (F.view folder.old).token
+        (moved (F.view folder.old) (F.view folder.new)) }
+    ensures order { (F.view folder.old).told
+        → MomentsInOrder (entry_in memory.now name.now key.now.0) (F.view folder.old).token
+        (moved (F.view folder.old) (F.view folder.new)) }
+    ensures called { (F.view folder.old).told
+        → AreWhole (entry_in memory.now name.now key.now.0) (text_in texts.now)
+        → Keeps (entry_in memory.now name.now key.now.0) (text_in texts.now)
+        (AreReady (entry_in memory.now name.now key.now.0) (F.view folder.old).token IsMoments)
+        (HasPutMoments (entry_in memory.now name.now key.now.0) (F.view folder.old).token) result
+        (F.view folder.old) (F.view folder.new) }
+    ensures alone { (F.view folder.old).told
+        → AreWhole (entry_in memory.now name.now key.now.0) (text_in texts.now) → result ≡ Keep.Kept
+        → IsLone (F.view folder.old).token (moved (F.view folder.old) (F.view folder.new))
+        → HasFiles (entry_in memory.now name.now key.now.0) (F.view folder.old).token
+        (text_in texts.now) IsMoments (state (F.view folder.old)) (state (F.view folder.new)) }
 {
     let metadata = texts.metadata.as_slice();
     match keep_file(
@@ -198,11 +237,24 @@ fn keep_files<F: Folder>(
     requires whole { AreWhole (entry_in memory.now name.now key.now.0) (text_in texts.now) }
     ensures goes { (F.view folder.old).told → GoesOn (F.view folder.old) (F.view folder.new) }
     ensures frame { FolderAnswers (result ≡ Keep.Fault) (F.view folder.old) (F.view folder.new) }
-    ensures order { (F.view folder.old).told → InOrder (IsMakingEntry (entry_in memory.now name.now key.now.0)) (entry_in memory.now name.now key.now.0) (F.view folder.old).token (moved (F.view folder.old) (F.view folder.new)) }
-    ensures called { (F.view folder.old).told → AreWhole (entry_in memory.now name.now key.now.0) (text_in texts.now) →
-        Keeps (entry_in memory.now name.now key.now.0) (text_in texts.now) (AreReady (entry_in memory.now name.now key.now.0) (F.view folder.old).token IsAnyFile) (HasPutAll (entry_in memory.now name.now key.now.0) (F.view folder.old).token) result (F.view folder.old) (F.view folder.new) }
-    ensures alone { (F.view folder.old).told → AreWhole (entry_in memory.now name.now key.now.0) (text_in texts.now) → result ≡ Keep.Kept → IsLone (F.view folder.old).token (moved (F.view folder.old) (F.view folder.new)) →
-        HasFiles (entry_in memory.now name.now key.now.0) (F.view folder.old).token (text_in texts.now) IsAnyFile (state (F.view folder.old)) (state (F.view folder.new)) }
+    ensures once { (F.view folder.old).told
+        → PutsInTurn (lasts_of (entry_in memory.now name.now key.now.0)) (F.view folder.old).token
+        (moved (F.view folder.old) (F.view folder.new)) }
+    ensures order { (F.view folder.old).told
+        → InOrder (IsMakingEntry (entry_in memory.now name.now key.now.0))
+        (entry_in memory.now name.now key.now.0) (F.view folder.old).token
+        (moved (F.view folder.old) (F.view folder.new)) }
+    ensures called { (F.view folder.old).told
+        → AreWhole (entry_in memory.now name.now key.now.0) (text_in texts.now)
+        → Keeps (entry_in memory.now name.now key.now.0) (text_in texts.now)
+        (AreReady (entry_in memory.now name.now key.now.0) (F.view folder.old).token IsAnyFile)
+        (HasPutAll (entry_in memory.now name.now key.now.0) (F.view folder.old).token) result
+        (F.view folder.old) (F.view folder.new) }
+    ensures alone { (F.view folder.old).told
+        → AreWhole (entry_in memory.now name.now key.now.0) (text_in texts.now) → result ≡ Keep.Kept
+        → IsLone (F.view folder.old).token (moved (F.view folder.old) (F.view folder.new))
+        → HasFiles (entry_in memory.now name.now key.now.0) (F.view folder.old).token
+        (text_in texts.now) IsAnyFile (state (F.view folder.old)) (state (F.view folder.new)) }
 {
     let output = texts.output.as_slice();
     match keep_file(alloc, memory, folder, EntryFile::Output, name, key, output) {
@@ -228,11 +280,24 @@ fn keep_texts<F: Folder>(
     requires whole { AreWhole (entry_in memory.now name.now key.now.0) (text_in texts.now) }
     ensures goes { (F.view folder.old).told → GoesOn (F.view folder.old) (F.view folder.new) }
     ensures frame { FolderAnswers (result ≡ Keep.Fault) (F.view folder.old) (F.view folder.new) }
-    ensures order { (F.view folder.old).told → InOrder (IsMakingEntry (entry_in memory.now name.now key.now.0)) (entry_in memory.now name.now key.now.0) (F.view folder.old).token (moved (F.view folder.old) (F.view folder.new)) }
-    ensures called { (F.view folder.old).told → AreWhole (entry_in memory.now name.now key.now.0) (text_in texts.now) →
-        Keeps (entry_in memory.now name.now key.now.0) (text_in texts.now) (IsReadyToKeep (entry_in memory.now name.now key.now.0)) (HasPutAll (entry_in memory.now name.now key.now.0) (F.view folder.old).token) result (F.view folder.old) (F.view folder.new) }
-    ensures alone { (F.view folder.old).told → AreWhole (entry_in memory.now name.now key.now.0) (text_in texts.now) → result ≡ Keep.Kept → IsLone (F.view folder.old).token (moved (F.view folder.old) (F.view folder.new)) →
-        HasEntry (entry_in memory.now name.now key.now.0) (F.view folder.old).token (text_in texts.now) (state (F.view folder.old)) (state (F.view folder.new)) }
+    ensures once { (F.view folder.old).told
+        → PutsInTurn (lasts_of (entry_in memory.now name.now key.now.0)) (F.view folder.old).token
+        (moved (F.view folder.old) (F.view folder.new)) }
+    ensures order { (F.view folder.old).told
+        → InOrder (IsMakingEntry (entry_in memory.now name.now key.now.0))
+        (entry_in memory.now name.now key.now.0) (F.view folder.old).token
+        (moved (F.view folder.old) (F.view folder.new)) }
+    ensures called { (F.view folder.old).told
+        → AreWhole (entry_in memory.now name.now key.now.0) (text_in texts.now)
+        → Keeps (entry_in memory.now name.now key.now.0) (text_in texts.now)
+        (IsReadyToKeep (entry_in memory.now name.now key.now.0))
+        (HasPutAll (entry_in memory.now name.now key.now.0) (F.view folder.old).token) result
+        (F.view folder.old) (F.view folder.new) }
+    ensures alone { (F.view folder.old).told
+        → AreWhole (entry_in memory.now name.now key.now.0) (text_in texts.now) → result ≡ Keep.Kept
+        → IsLone (F.view folder.old).token (moved (F.view folder.old) (F.view folder.new))
+        → HasEntry (entry_in memory.now name.now key.now.0) (F.view folder.old).token
+        (text_in texts.now) (state (F.view folder.old)) (state (F.view folder.new)) }
 {
     match make_entry(alloc, memory, folder, name, key) {
         Keep::Kept => keep_files(alloc, memory, folder, name, key, texts),
@@ -254,8 +319,10 @@ fn entry_texts(
     requires keepable { IsKeepable code.now args.now (tree_of value.now) }
     requires duration { IsMoment duration }
     requires moment { IsMoment moment }
-    ensures texts { IfOk result (λ t. (file : EntryFile) → text_in t file ≡ texts_of code.now args.now (tree_of value.now) duration moment file) }
-    ensures whole { (e : Entry) → e.key ≡ encode_lower (key_of args.now) → IfOk result (λ t. AreWhole e (text_in t)) }
+    ensures texts { IfOk result (λ t. (file : EntryFile) → text_in t file ≡ texts_of code.now
+        args.now (tree_of value.now) duration moment file) }
+    ensures whole { (e : Entry) → e.key ≡ encode_lower (key_of args.now)
+        → IfOk result (λ t. AreWhole e (text_in t)) }
 {
     let output = write_output(alloc, code, args, value)?;
     let metadata = write_metadata(alloc, duration, moment)?;
@@ -288,10 +355,25 @@ pub fn keep<F: Folder>(
     requires moment { IsMoment moment }
     ensures goes { (F.view folder.old).told → GoesOn (F.view folder.old) (F.view folder.new) }
     ensures frame { FolderAnswers (result ≡ Keep.Fault) (F.view folder.old) (F.view folder.new) }
+    ensures once { (F.view folder.old).told
+        → PutsInTurn (lasts_of (entry_in memory.now name.now (key_of args.now)))
+        (F.view folder.old).token (moved (F.view folder.old) (F.view folder.new)) }
     // The output is put in place before there is anything of the metadata, and the metadata before there is anything of the last access.
-    ensures order { (F.view folder.old).told → InOrder (IsMakingEntry (entry_in memory.now name.now (key_of args.now))) (entry_in memory.now name.now (key_of args.now)) (F.view folder.old).token (moved (F.view folder.old) (F.view folder.new)) }
-    ensures called { (F.view folder.old).told → Keeps (entry_in memory.now name.now (key_of args.now)) (texts_of code.now args.now (tree_of value.now) duration moment) (IsReadyToKeep (entry_in memory.now name.now (key_of args.now))) (HasPutAll (entry_in memory.now name.now (key_of args.now)) (F.view folder.old).token) result (F.view folder.old) (F.view folder.new) }
-    ensures alone { (F.view folder.old).told → result ≡ Keep.Kept → IsLone (F.view folder.old).token (moved (F.view folder.old) (F.view folder.new)) → HasEntry (entry_in memory.now name.now (key_of args.now)) (F.view folder.old).token (texts_of code.now args.now (tree_of value.now) duration moment) (state (F.view folder.old)) (state (F.view folder.new)) }
+    ensures order { (F.view folder.old).told
+        → InOrder (IsMakingEntry (entry_in memory.now name.now (key_of args.now)))
+        (entry_in memory.now name.now (key_of args.now)) (F.view folder.old).token
+        (moved (F.view folder.old) (F.view folder.new)) }
+    ensures called { (F.view folder.old).told
+        → Keeps (entry_in memory.now name.now (key_of args.now))
+        (texts_of code.now args.now (tree_of value.now) duration moment)
+        (IsReadyToKeep (entry_in memory.now name.now (key_of args.now)))
+        (HasPutAll (entry_in memory.now name.now (key_of args.now)) (F.view folder.old).token)
+        result (F.view folder.old) (F.view folder.new) }
+    ensures alone { (F.view folder.old).told → result ≡ Keep.Kept
+        → IsLone (F.view folder.old).token (moved (F.view folder.old) (F.view folder.new))
+        → HasEntry (entry_in memory.now name.now (key_of args.now)) (F.view folder.old).token
+        (texts_of code.now args.now (tree_of value.now) duration moment) (state (F.view folder.old))
+        (state (F.view folder.new)) }
 {
     let Ok(key) = digest(alloc, args) else {
         return Keep::NoMemory;
@@ -317,9 +399,15 @@ pub fn touch<F: Folder>(
     requires moment { IsMoment moment }
     ensures goes { (F.view folder.old).told → GoesOn (F.view folder.old) (F.view folder.new) }
     ensures frame { FolderAnswers (result ≡ Keep.Fault) (F.view folder.old) (F.view folder.new) }
-    ensures called { (F.view folder.old).told → KeepsFile (entry_in memory.now name.now key.now.0) EntryFile.Access (access_text moment) (IsReadyToTouch (entry_in memory.now name.now key.now.0)) result (F.view folder.old) (F.view folder.new) }
-    ensures alone { (F.view folder.old).told → result ≡ Keep.Kept → IsLone (F.view folder.old).token (moved (F.view folder.old) (F.view folder.new)) →
-        IsPublished (last_of (entry_in memory.now name.now key.now.0) EntryFile.Access) (temp_of (entry_in memory.now name.now key.now.0) (F.view folder.old).token EntryFile.Access) (access_text moment) (state (F.view folder.old)) (state (F.view folder.new)) }
+    ensures called { (F.view folder.old).told
+        → KeepsFile (entry_in memory.now name.now key.now.0) EntryFile.Access (access_text moment)
+        (IsReadyToTouch (entry_in memory.now name.now key.now.0)) result (F.view folder.old)
+        (F.view folder.new) }
+    ensures alone { (F.view folder.old).told → result ≡ Keep.Kept
+        → IsLone (F.view folder.old).token (moved (F.view folder.old) (F.view folder.new))
+        → IsPublished (last_of (entry_in memory.now name.now key.now.0) EntryFile.Access) (temp_of
+        (entry_in memory.now name.now key.now.0) (F.view folder.old).token EntryFile.Access)
+        (access_text moment) (state (F.view folder.old)) (state (F.view folder.new)) }
 {
     match write_access(alloc, moment) {
         Ok(bytes) => keep_file(

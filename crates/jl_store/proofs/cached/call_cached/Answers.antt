@@ -539,6 +539,7 @@ returns-in-Ok-warn_of_check-clause-did g c = λ code n is line told.
             answers = mine.frame;
             remembers = c.in-Ok-warn_of_check.ensures.memory;
             call = coded root home last temp text code c.in-Ok.code.line n old mid same one (mine.called told);
+            once = mine.once told;
             checks = subst (λ (k : List ℕ). Checks check home last temp k old mid) same (mine.checks told);
             skipped = λ skipped orderly. mine.skipped told skipped orderly;
             alone = λ lone tidy rose.

@@ -129,6 +129,7 @@ returns-in-Ok-warn_of-clause-did g c = λ told is n.
       answers = c.keep-kept.ensures.frame;
       remembers = c.in-Ok-warn_of.ensures.memory;
       call = c.keep-kept.ensures.called told;
+      once = c.keep-kept.ensures.once told;
       order = c.keep-kept.ensures.order told;
       alone = λ done lone. c.keep-kept.ensures.alone told done lone;
       warns = subst (λ (k : List ℕ). c.warn_of.new.warnings.items ≡ c.args.warnings.now.items ++ keep_warns kept c.args.name.now (record { 0 = k })) c.in-Ok.ensures.key c.in-Ok-warn_of.ensures.ok;

@@ -1,4 +1,4 @@
-use Rattle.std.proofs.Common.{◌≡◌, ◌∙◌, inl, inr, ℕ, List, refl, sym, subst, arith}
+use Rattle.std.proofs.Common.{◌≡◌, ◌∙◌, inl, inr, ℕ, List, [], ◌∷◌, refl, sym, subst, arith}
 use Rattle.jl_text.specs.Paths.{PathView}
 use Rattle.jl_folder.specs.Views.{FolderView, state, moved}
 use Rattle.jl_entry.specs.Codes.{code_text}
@@ -7,15 +7,17 @@ use Rattle.jl_rely.specs.Claims.{Called, Anywhere}
 use Rattle.jl_rely.specs.Steps.{IsLone}
 use Rattle.jl_rely.specs.Touches.{TouchedByOther}
 use Rattle.jl_rely.proofs.Composed.{not_called, goes_waits}
-use Rattle.jl_rely.proofs.Moving.{called_moves}
+use Rattle.jl_rely.proofs.Moving.{called_moves, moves_waits}
 use Rattle.jl_rely.proofs.Alone.{lone_parts, waits_alone}
 use Rattle.jl_protocol.specs.Proper.{IsProper, LawfulThroughout}
 use Rattle.jl_protocol.specs.Tidy.{IsTidy}
 use Rattle.jl_protocol.specs.Whole.{IsWhole}
 use Rattle.jl_store.specs.Kinds.{PutsThis}
+use Rattle.jl_store.specs.Renames.{IsNoRename, PutsInTurn}
 use Rattle.jl_store.specs.Alone.{LeavesCode}
 use Rattle.jl_store.specs.Checking.{UsesCode, MovesFor, IsChecking, function_path, code_path, code_temp}
 use Rattle.jl_store.proofs.StorePaths.{code_whole}
+use Rattle.jl_store.proofs.InTurn.{turns_none, turns_moves, turns_then}
 use Rattle.jl_store.proofs.CheckLemmas.{check_called, check_checks, lawful_code, check_frame, checks_none}
 use Rattle.jl_store.proofs.SkipCauses.{skips_held}
 use Rattle.jl_store.proofs.CodeAlone.{lone_owed, check_alone}
@@ -188,3 +190,32 @@ returns-clause-alone g c = λ t lone tidy faultless.
     (λ is. lone_untouched token (UsesCode (function_path root m f) (code_path root m f) (code_temp root m f token)) (moved old new) lone (returns-clause-skipped g c t is (tidy, all)))
     (λ is. faultless (failed (inl is)))
     (λ is. faultless (failed (inr is)))
+
+-- ---- the final name is put in place at most once
+
+pub returns-in_default-clause-once : goal.returns-in_default-clause-once
+returns-in_default-clause-once g c = λ t. turns_none _ (g.F.Folder.view c.args.folder.now)
+
+pub returns-in_default-write_code-clause-once : goal.returns-in_default-write_code-clause-once
+returns-in_default-write_code-clause-once g c = λ t. turns_none _ (g.F.Folder.view c.args.folder.now)
+
+pub returns-clause-once : goal.returns-clause-once
+returns-clause-once g c = λ t.
+    let root = root_of c.args.memory.now.location in
+    let m = c.args.memory.now.module in
+    let f = c.args.name.now in
+    let old = g.F.Folder.view c.args.folder.now in
+    let mid = g.F.Folder.view c.held-held.new.folder in
+    let new = g.F.Folder.view c.follow.new.folder in
+    let files = c.in-Ok.files in
+    let code = code_of m f in
+    let told = c.held-held.ensures.frame.told t in
+    let same = c.held-held.ensures.frame.token in
+    let waits = c.held-held.ensures.waits t in
+    let text : _ ≡ code_text c.args.code.now c.args.line = c.as_slice.ensures ∙ c.in-Ok-write_code.ensures.text in
+    let whole = subst (IsWhole code) (sym text) (code_whole m f c.args.code.now c.args.line c.requires.line (omega arith) c.requires.code) in
+    let temp = subst (λ (u : List ℕ). IsTemp root code u files.temp) (sym (token_is g c)) c.in-Ok.ensures.2 in
+    subst (λ (p : PathView). PutsInTurn (p ∷ []) old.token (moved old new)) c.in-Ok.ensures.1.is
+    (turns_then [] (files.last ∷ []) old mid new (goes_waits old mid same waits) (c.follow.ensures.stores.goes told)
+    (turns_moves [] IsNoRename (λ n none. none) old mid (moves_waits IsNoRename old mid same waits))
+    (c.follow.ensures.stores.once told root code temp c.in-Ok.ensures.1 whole))

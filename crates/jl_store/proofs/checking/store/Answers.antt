@@ -14,6 +14,7 @@ returns-clause-stores g c =
           (λ is. check_fault r c.args.done c.requires.done (sym c.as_check.ensures ∙ is)) (λ is. c.as_check.ensures ∙ fault_check r c.args.done is);
       goes = e.goes;
       called = λ t root x fun temp final whole. (e.called t root x temp final whole).call;
+      once = λ t root x temp final whole. (e.called t root x temp final whole).once;
       ends = λ t done. e.done t (done_published r c.args.done c.as_check.result c.as_check.ensures done);
     }
 

@@ -10,6 +10,7 @@ use Rattle.jl_store.specs.Doing.{IsPrefix, IsMaking}
 use Rattle.jl_store.specs.declared.folders.MadeFolders.{MadeFolders}
 use Rattle.jl_store.proofs.SkipCauses.{skips_then, folders_used, steps_first}
 use Rattle.jl_store.proofs.StorePaths.{making_puts}
+use Rattle.jl_store.proofs.InTurn.{making_no_rename}
 use Rattle.jl_store.proofs.CheckLemmas.{stores_then, stores_only}
 use Rattle.jl_store.proofs.CodeAlone.{writes_code, leaves_written, comes_written}
 use Rattle.jl_store.proofs.checking.write_new.Goals as goal
@@ -22,28 +23,28 @@ pub returns-in-Made-clause-stores : goal.returns-in-Made-clause-stores
 returns-in-Made-clause-stores g c =
     let files = c.args.files.now in
     let bytes = c.args.bytes.now in
-    stores_then files bytes (IsMaking files.folder) (λ root fun t s m is. making_puts root files.folder fun files.last bytes t s m is) c.store.result
+    stores_then files bytes (IsMaking files.folder) (making_no_rename files.folder) (λ root fun t s m is. making_puts root files.folder fun files.last bytes t s m is) c.store.result
     (g.F.Folder.view c.args.folder.now) (g.F.Folder.view c.make_folders.new.folder) (g.F.Folder.view c.store.new.folder) c.in-Made.ensures.frame (λ failed. cc) c.make_folders.ensures.moves c.store.ensures.stores
 
 pub returns-in-Skipped-clause-stores : goal.returns-in-Skipped-clause-stores
 returns-in-Skipped-clause-stores g c =
     let files = c.args.files.now in
     let bytes = c.args.bytes.now in
-    stores_only files bytes (IsMaking files.folder) (λ root fun t s m is. making_puts root files.folder fun files.last bytes t s m is) _
+    stores_only files bytes (IsMaking files.folder) (making_no_rename files.folder) (λ root fun t s m is. making_puts root files.folder fun files.last bytes t s m is) _
     (g.F.Folder.view c.args.folder.now) (g.F.Folder.view c.make_folders.new.folder) c.in-Skipped.ensures.frame (λ e. cc) (λ e. cc) c.make_folders.ensures.moves (λ done. done)
 
 pub returns-in-Fault-clause-stores : goal.returns-in-Fault-clause-stores
 returns-in-Fault-clause-stores g c =
     let files = c.args.files.now in
     let bytes = c.args.bytes.now in
-    stores_only files bytes (IsMaking files.folder) (λ root fun t s m is. making_puts root files.folder fun files.last bytes t s m is) _
+    stores_only files bytes (IsMaking files.folder) (making_no_rename files.folder) (λ root fun t s m is. making_puts root files.folder fun files.last bytes t s m is) _
     (g.F.Folder.view c.args.folder.now) (g.F.Folder.view c.make_folders.new.folder) c.in-Fault.ensures.frame (λ e. refl) (λ e. refl) c.make_folders.ensures.moves (λ done. done)
 
 pub returns-in-NoMemory-clause-stores : goal.returns-in-NoMemory-clause-stores
 returns-in-NoMemory-clause-stores g c =
     let files = c.args.files.now in
     let bytes = c.args.bytes.now in
-    stores_only files bytes (IsMaking files.folder) (λ root fun t s m is. making_puts root files.folder fun files.last bytes t s m is) _
+    stores_only files bytes (IsMaking files.folder) (making_no_rename files.folder) (λ root fun t s m is. making_puts root files.folder fun files.last bytes t s m is) _
     (g.F.Folder.view c.args.folder.now) (g.F.Folder.view c.make_folders.new.folder) c.in-NoMemory.ensures.frame (λ e. cc) (λ e. cc) c.make_folders.ensures.moves (λ done. done)
 
 pub returns-in-Made-clause-skips : goal.returns-in-Made-clause-skips

@@ -8,6 +8,7 @@ use Rattle.jl_store.specs.Doing.{IsClearing}
 use Rattle.jl_store.proofs.Cleared.{cleared_moves, cleared_alone}
 use Rattle.jl_store.proofs.SkipCauses.{skips_then, cleared_there}
 use Rattle.jl_store.proofs.StorePaths.{clearing_puts}
+use Rattle.jl_store.proofs.InTurn.{clearing_no_rename}
 use Rattle.jl_store.proofs.CheckLemmas.{stores_then, stores_only}
 use Rattle.jl_store.proofs.CodeAlone.{replaces_code, leaves_replaced, comes_replaced}
 use Rattle.jl_store.proofs.checking.write_over.Goals as goal
@@ -25,7 +26,7 @@ returns-in-Cleared-clause-stores g c =
     let mid = g.F.Folder.view c.clear_entries.new.folder in
     let fun = c.requires.of_function in
     let clears = c.in-Cleared.ensures fun.0 fun.1 in
-    stores_then files bytes (IsClearing files.folder) (λ root is t s m kind. clearing_puts root files.folder is files.last bytes t s m kind) c.store.result old mid (g.F.Folder.view c.store.new.folder)
+    stores_then files bytes (IsClearing files.folder) (clearing_no_rename files.folder) (λ root is t s m kind. clearing_puts root files.folder is files.last bytes t s m kind) c.store.result old mid (g.F.Folder.view c.store.new.folder)
     clears.frame (λ failed. cc) (cleared_moves fun.0 files.folder fun.1 _ old mid clears) c.store.ensures.stores
 
 pub returns-in-Fault-clause-stores : goal.returns-in-Fault-clause-stores
@@ -36,7 +37,7 @@ returns-in-Fault-clause-stores g c =
     let new = g.F.Folder.view c.clear_entries.new.folder in
     let fun = c.requires.of_function in
     let clears = c.in-Fault.ensures fun.0 fun.1 in
-    stores_only files bytes (IsClearing files.folder) (λ root is t s m kind. clearing_puts root files.folder is files.last bytes t s m kind) _ old new
+    stores_only files bytes (IsClearing files.folder) (clearing_no_rename files.folder) (λ root is t s m kind. clearing_puts root files.folder is files.last bytes t s m kind) _ old new
     clears.frame (λ e. refl) (λ e. refl) (cleared_moves fun.0 files.folder fun.1 _ old new clears) (λ done. done)
 
 pub returns-in-NoMemory-clause-stores : goal.returns-in-NoMemory-clause-stores
@@ -47,7 +48,7 @@ returns-in-NoMemory-clause-stores g c =
     let new = g.F.Folder.view c.clear_entries.new.folder in
     let fun = c.requires.of_function in
     let clears = c.in-NoMemory.ensures fun.0 fun.1 in
-    stores_only files bytes (IsClearing files.folder) (λ root is t s m kind. clearing_puts root files.folder is files.last bytes t s m kind) _ old new
+    stores_only files bytes (IsClearing files.folder) (clearing_no_rename files.folder) (λ root is t s m kind. clearing_puts root files.folder is files.last bytes t s m kind) _ old new
     clears.frame (λ e. cc) (λ e. cc) (cleared_moves fun.0 files.folder fun.1 _ old new clears) (λ done. done)
 
 pub returns-in-Cleared-clause-skips : goal.returns-in-Cleared-clause-skips

@@ -1,4 +1,4 @@
-use Rattle.std.proofs.Common.{◌≡◌, [], true, refl, subst, sym}
+use Rattle.std.proofs.Common.{◌≡◌, [], ◌∷◌, true, refl, subst, sym}
 use Rattle.jl_folder.specs.declared.moves.Move.TheVariants.{Rename}
 use Rattle.jl_folder.specs.Views.{state}
 use Rattle.jl_folder.proofs.Opens.{IsMade-new}
@@ -16,6 +16,7 @@ use Rattle.jl_store.specs.Kinds.{IsOnName, IsFor, PutsThis}
 use Rattle.jl_store.specs.Publishing.{TempLeft}
 use Rattle.jl_store.specs.declared.temporary.TempFile.TheVariants as temp_file
 use Rattle.jl_store.specs.declared.files.Published.TheVariants as published
+use Rattle.jl_store.proofs.InTurn.{on_name_no_rename, turns_moves, turns_then}
 use Rattle.jl_store.proofs.KindFacts.{as_publishing}
 use Rattle.jl_store.proofs.NamePlaces.{beside, names_apart}
 use Rattle.jl_store.proofs.Turning.{turns_next, turns_answers}
@@ -57,6 +58,9 @@ returns-in-File-clause-called g c t root x is_temp is_final whole =
           (called_for (IsProper root) (IsProper root) (IsOnName temp) (IsOnName temp) (IsTidy root) (IsTidy root) (TempLeft temp (temp_file.File number) mid) (IsOwnFile mid.token temp file.node []) old mid
           (λ m is. is) (λ s tidy. tidy) (λ s left. left file made.1) first))
           (c.publish_open.ensures.called told file made.1 root x is_temp' is_final whole);
+      once = turns_then [] (last ∷ []) old mid new (c.create_temp.ensures.goes t) (c.publish_open.ensures.goes told)
+          (turns_moves [] (IsOnName temp) (on_name_no_rename temp) old mid (called_moves (IsProper root) (IsProper root) (IsOnName temp) (IsTidy root) _ old mid first))
+          (c.publish_open.ensures.once told file made.1 root x is_temp');
       skipped = λ skipped ready.
           skipped_made last temp old mid new (names_apart old.token last temp bytes c.requires) (beside root x old.token last temp is_temp is_final)
           (called_moves (IsProper root) (IsProper root) (IsOnName temp) (IsTidy root) _ old mid first) (c.publish_open.ensures.goes told)
@@ -72,6 +76,7 @@ returns-in-Skipped-clause-called g c t root x is_temp is_final whole =
     let new = g.F.Folder.view c.create_temp.new.folder in
     record {
       call = as_publishing root last temp c.args.bytes.now (IsOnName temp) (IsTidy root) Anywhere old new (λ m is. is) (c.in-Skipped.ensures.called t root x is_temp);
+      once = turns_moves (last ∷ []) (IsOnName temp) (on_name_no_rename temp) old new (called_moves (IsProper root) (IsProper root) (IsOnName temp) (IsTidy root) _ old new (c.in-Skipped.ensures.called t root x is_temp));
       skipped = λ skipped ready. skipped_first last temp old new (beside root x old.token last temp is_temp is_final) (c.in-Skipped.ensures.skipped t refl) ready.temp_free ready.home;
     }
 
@@ -89,6 +94,9 @@ returns-in-Fault-clause-called g c t root x is_temp is_final whole =
           then_called (IsProper root) (PutsThis root last bytes) (IsFor last temp) (IsTidy root) Anywhere Anywhere old mid new
           (as_publishing root last temp bytes (IsOnName temp) (IsTidy root) Anywhere old mid (λ m is. is) (c.in-Fault.ensures.called t root x is_temp))
           (as_publishing root last temp bytes (IsOnName temp) Anywhere Anywhere mid new (λ m is. is) (c.abandon.ensures.called (c.create_temp.ensures.frame.told t) root x is_temp'));
+      once = turns_then (last ∷ []) [] old mid new (c.create_temp.ensures.goes t) (c.abandon.ensures.goes (c.create_temp.ensures.frame.told t))
+          (turns_moves (last ∷ []) (IsOnName temp) (on_name_no_rename temp) old mid (called_moves (IsProper root) (IsProper root) (IsOnName temp) (IsTidy root) _ old mid (c.in-Fault.ensures.called t root x is_temp)))
+          (turns_moves [] (IsOnName temp) (on_name_no_rename temp) mid new (called_moves (IsProper root) (IsProper root) (IsOnName temp) Anywhere Anywhere mid new (c.abandon.ensures.called (c.create_temp.ensures.frame.told t) root x is_temp')));
       skipped = λ (skipped : published.Fault ≡ published.Skipped). cc;
     }
 
@@ -96,6 +104,11 @@ pub returns-in-NoMemory-clause-called : goal.returns-in-NoMemory-clause-called
 returns-in-NoMemory-clause-called g c t root x is_temp is_final whole =
     record {
       call = as_publishing root c.args.last.now c.args.temp.now c.args.bytes.now (IsOnName c.args.temp.now) (IsTidy root) Anywhere (g.F.Folder.view c.args.folder.now) (g.F.Folder.view c.create_temp.new.folder) (λ m is. is) (c.in-NoMemory.ensures.called t root x is_temp);
+      once =
+          let temp = c.args.temp.now in
+          let old = g.F.Folder.view c.args.folder.now in
+          let new = g.F.Folder.view c.create_temp.new.folder in
+          turns_moves (c.args.last.now ∷ []) (IsOnName temp) (on_name_no_rename temp) old new (called_moves (IsProper root) (IsProper root) (IsOnName temp) (IsTidy root) _ old new (c.in-NoMemory.ensures.called t root x is_temp));
       skipped = λ (skipped : published.NoMemory ≡ published.Skipped). cc;
     }
 

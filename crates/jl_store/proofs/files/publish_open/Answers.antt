@@ -1,4 +1,4 @@
-use Rattle.std.proofs.Common.{[], subst, sym}
+use Rattle.std.proofs.Common.{[], ◌∷◌, subst, sym}
 use Rattle.jl_folder.specs.declared.moves.Move.TheVariants.{Rename}
 use Rattle.jl_folder.specs.Views.{state}
 use Rattle.jl_entry.specs.Names.{IsTemp}
@@ -11,6 +11,7 @@ use Rattle.jl_protocol.specs.Proper.{IsProper}
 use Rattle.jl_protocol.specs.Owned.{IsOwnFile}
 use Rattle.jl_store.specs.Kinds.{IsAppend, IsOnName, IsFor, PutsThis}
 use Rattle.jl_store.specs.Publishing.{IsDraft, IsPublished}
+use Rattle.jl_store.proofs.InTurn.{append_no_rename, on_name_no_rename, turns_moves, turns_then}
 use Rattle.jl_store.proofs.KindFacts.{as_publishing, append_on_name}
 use Rattle.jl_store.proofs.Ending.{ends_later, skipped_filled}
 use Rattle.jl_store.proofs.files.publish_open.Goals as goal
@@ -87,3 +88,33 @@ returns-in-All-clause-alone g c t done file is before lone draft =
     let filled = c.in-All.ensures.alone t file is temp [] before parts.0 draft in
     let put = subst (λ k. IsDraft k temp file.node bytes before (state mid) → IsPublished last temp bytes before (state new)) c.fill.ensures.frame.token (c.put_in_place.ensures.alone told done file.node bytes before parts.1) in
     put filled
+
+pub returns-in-All-clause-once : goal.returns-in-All-clause-once
+returns-in-All-clause-once g c t file is root x is_temp =
+    let temp = c.args.temp.now in
+    let old = g.F.Folder.view c.args.folder.now in
+    let mid = g.F.Folder.view c.fill.new.folder in
+    let told = c.fill.ensures.frame.told t in
+    turns_then [] (c.args.last.now ∷ []) old mid (g.F.Folder.view c.put_in_place.new.folder) (c.fill.ensures.goes t) (c.put_in_place.ensures.goes told)
+    (turns_moves [] IsAppend append_no_rename old mid (called_moves (IsProper root) (IsProper root) IsAppend (IsOwnFile old.token temp file.node []) _ old mid (c.in-All.ensures.called t file is temp [] root x is_temp)))
+    (c.put_in_place.ensures.once told root x (subst (λ k. IsTemp root x k temp) (sym c.fill.ensures.frame.token) is_temp))
+
+pub returns-in-Fault-clause-once : goal.returns-in-Fault-clause-once
+returns-in-Fault-clause-once g c t file is root x is_temp =
+    let last = c.args.last.now in
+    let temp = c.args.temp.now in
+    let old = g.F.Folder.view c.args.folder.now in
+    let mid = g.F.Folder.view c.fill.new.folder in
+    let new = g.F.Folder.view c.abandon.new.folder in
+    let told = c.fill.ensures.frame.told t in
+    let is_temp' = subst (λ k. IsTemp root x k temp) (sym c.fill.ensures.frame.token) is_temp in
+    turns_then (last ∷ []) [] old mid new (c.fill.ensures.goes t) (c.abandon.ensures.goes told)
+    (turns_moves (last ∷ []) IsAppend append_no_rename old mid (called_moves (IsProper root) (IsProper root) IsAppend (IsOwnFile old.token temp file.node []) _ old mid (c.in-Fault.ensures.called t file is temp [] root x is_temp)))
+    (turns_moves [] (IsOnName temp) (on_name_no_rename temp) mid new (called_moves (IsProper root) (IsProper root) (IsOnName temp) Anywhere Anywhere mid new (c.abandon.ensures.called told root x is_temp')))
+
+pub returns-in-NoMemory-clause-once : goal.returns-in-NoMemory-clause-once
+returns-in-NoMemory-clause-once g c t file is root x is_temp =
+    let temp = c.args.temp.now in
+    let old = g.F.Folder.view c.args.folder.now in
+    let mid = g.F.Folder.view c.fill.new.folder in
+    turns_moves (c.args.last.now ∷ []) IsAppend append_no_rename old mid (called_moves (IsProper root) (IsProper root) IsAppend (IsOwnFile old.token temp file.node []) _ old mid (c.in-NoMemory.ensures.called t file is temp [] root x is_temp))

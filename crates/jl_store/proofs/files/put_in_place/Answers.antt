@@ -1,11 +1,13 @@
 use Rattle.jl_rely.specs.Claims.{Anywhere}
-use Rattle.std.proofs.Common.{subst, sym}
+use Rattle.std.proofs.Common.{[], ◌∷◌, subst, sym}
 use Rattle.jl_entry.specs.Names.{IsTemp}
 use Rattle.jl_rely.proofs.Since.{goes_then}
+use Rattle.jl_rely.proofs.Moving.{called_moves}
 use Rattle.jl_rely.proofs.Composed.{goes_call, then_called}
 use Rattle.jl_protocol.specs.Proper.{IsProper}
 use Rattle.jl_protocol.specs.Owned.{IsOwnFile}
 use Rattle.jl_store.specs.Kinds.{IsOnName, IsFor, PutsThis}
+use Rattle.jl_store.proofs.InTurn.{on_name_no_rename, rename_once, turns_moves, turns_then}
 use Rattle.jl_store.proofs.KindFacts.{as_publishing}
 use Rattle.jl_store.proofs.Ending.{rename_called, rename_ends, rename_alone, no_file, no_parent, blocked}
 use Rattle.jl_store.proofs.files.put_in_place.Goals as goal
@@ -77,3 +79,31 @@ returns-in-Failed-clause-called g c t root x n bytes is_temp is_final whole =
     then_called (IsProper root) (PutsThis root last bytes) (IsFor last temp) (IsOwnFile old.token temp n bytes) Anywhere Anywhere old mid new
     (rename_called last temp old mid root x n bytes is_temp is_final whole c.rename.ensures.frame.token c.rename.result (c.rename.ensures.call t))
     (as_publishing root last temp bytes (IsOnName temp) Anywhere Anywhere mid new (λ m is. is) (c.abandon.ensures.called (c.rename.ensures.frame.told t) root x is_temp'))
+
+pub returns-in-Done-clause-once : goal.returns-in-Done-clause-once
+returns-in-Done-clause-once g c t root x is_temp = rename_once c.args.last.now c.args.temp.now (g.F.Folder.view c.args.folder.now) (g.F.Folder.view c.rename.new.self) c.rename.result (c.rename.ensures.call t)
+
+pub returns-in-NoFile-clause-once : goal.returns-in-NoFile-clause-once
+returns-in-NoFile-clause-once g c t root x is_temp = rename_once c.args.last.now c.args.temp.now (g.F.Folder.view c.args.folder.now) (g.F.Folder.view c.rename.new.self) c.rename.result (c.rename.ensures.call t)
+
+pub returns-in-NoParent-clause-once : goal.returns-in-NoParent-clause-once
+returns-in-NoParent-clause-once g c t root x is_temp = rename_once c.args.last.now c.args.temp.now (g.F.Folder.view c.args.folder.now) (g.F.Folder.view c.rename.new.self) c.rename.result (c.rename.ensures.call t)
+
+pub returns-in-Blocked-clause-once : goal.returns-in-Blocked-clause-once
+returns-in-Blocked-clause-once g c t root x is_temp = rename_once c.args.last.now c.args.temp.now (g.F.Folder.view c.args.folder.now) (g.F.Folder.view c.rename.new.self) c.rename.result (c.rename.ensures.call t)
+
+pub returns-in-NoMemory-clause-once : goal.returns-in-NoMemory-clause-once
+returns-in-NoMemory-clause-once g c t root x is_temp = rename_once c.args.last.now c.args.temp.now (g.F.Folder.view c.args.folder.now) (g.F.Folder.view c.rename.new.self) c.rename.result (c.rename.ensures.call t)
+
+pub returns-in-Failed-clause-once : goal.returns-in-Failed-clause-once
+returns-in-Failed-clause-once g c t root x is_temp =
+    let last = c.args.last.now in
+    let temp = c.args.temp.now in
+    let old = g.F.Folder.view c.args.folder.now in
+    let mid = g.F.Folder.view c.rename.new.self in
+    let new = g.F.Folder.view c.abandon.new.folder in
+    let told = c.rename.ensures.frame.told t in
+    let is_temp' = subst (λ k. IsTemp root x k temp) (sym c.rename.ensures.frame.token) is_temp in
+    turns_then (last ∷ []) [] old mid new (goes_call old mid _ c.rename.ensures.frame.token (c.rename.ensures.call t)) (c.abandon.ensures.goes told)
+    (rename_once last temp old mid c.rename.result (c.rename.ensures.call t))
+    (turns_moves [] (IsOnName temp) (on_name_no_rename temp) mid new (called_moves (IsProper root) (IsProper root) (IsOnName temp) Anywhere Anywhere mid new (c.abandon.ensures.called told root x is_temp')))

@@ -3,9 +3,11 @@ use Rattle.hex.specs.Hex.{encode_lower}
 use Rattle.jl_folder.specs.Views.{state, moved}
 use Rattle.jl_value.specs.Form.{tree_of}
 use Rattle.jl_value.specs.Key.{key_of}
-use Rattle.jl_store.specs.Keeping.{IsMakingEntry, InOrder, entry_in, texts, text_in, IsReadyToKeep, HasPutAll, HasEntry, Keeps}
+use Rattle.jl_store.specs.Keeping.{IsMakingEntry, lasts_of, InOrder, entry_in, texts, text_in, IsReadyToKeep, HasPutAll, HasEntry, Keeps}
 use Rattle.jl_store.proofs.KeepFacts.{nothing_keeps}
 use Rattle.jl_store.proofs.Orders.{order_none}
+use Rattle.jl_store.specs.Renames.{PutsInTurn}
+use Rattle.jl_store.proofs.InTurn.{turns_none}
 use Rattle.jl_store.proofs.keeping.keep.Goals as goal
 
 pub keep_texts-requires-clause-whole : goal.keep_texts-requires-clause-whole
@@ -61,3 +63,15 @@ returns-clause-order g c t =
     let old = g.F.Folder.view c.args.folder.now in
     let moves = moved old (g.F.Folder.view c.keep_texts.new.folder) in
     subst (λ (k : List ℕ). let e = entry_in c.args.memory.now c.args.name.now k in InOrder (IsMakingEntry e) e old.token moves) c.in-Ok.ensures.key (c.keep_texts.ensures.order t)
+
+pub returns-in_default-clause-once : goal.returns-in_default-clause-once
+returns-in_default-clause-once g c t = turns_none _ (g.F.Folder.view c.args.folder.now)
+
+pub returns-in_default-entry_texts-clause-once : goal.returns-in_default-entry_texts-clause-once
+returns-in_default-entry_texts-clause-once g c t = turns_none _ (g.F.Folder.view c.args.folder.now)
+
+pub returns-clause-once : goal.returns-clause-once
+returns-clause-once g c t =
+    let old = g.F.Folder.view c.args.folder.now in
+    let moves = moved old (g.F.Folder.view c.keep_texts.new.folder) in
+    subst (λ (k : List ℕ). PutsInTurn (lasts_of (entry_in c.args.memory.now c.args.name.now k)) old.token moves) c.in-Ok.ensures.key (c.keep_texts.ensures.once t)

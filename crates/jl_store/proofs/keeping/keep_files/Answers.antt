@@ -1,4 +1,4 @@
-use Rattle.std.proofs.Common.{◌≡◌, refl, sym, ◌∙◌, subst}
+use Rattle.std.proofs.Common.{◌≡◌, [], ◌∷◌, refl, sym, ◌∙◌, subst}
 use Rattle.jl_folder.specs.declared.moves.Move.TheVariants.{Rename}
 use Rattle.jl_folder.specs.Views.{state, moved}
 use Rattle.jl_entry.specs.declared.names.EntryFile.TheVariants.{Output, Metadata, Access}
@@ -7,10 +7,11 @@ use Rattle.jl_rely.proofs.Alone.{lone_parts}
 use Rattle.jl_rely.proofs.Moving.{called_moves}
 use Rattle.jl_protocol.specs.Whole.{IsWhole}
 use Rattle.jl_store.specs.Publishing.{IsPublished}
-use Rattle.jl_store.specs.Keeping.{IsMakingEntry, entry_in, file_of, last_of, temp_of, text_in, IsReadyFor, AreReady, IsMoments, IsAnyFile, HasPut, HasPutMoments, HasPutAll, HasFiles, Keeps, KeepsFile}
+use Rattle.jl_store.specs.Keeping.{IsMakingEntry, moments_of, entry_in, file_of, last_of, temp_of, text_in, IsReadyFor, AreReady, IsMoments, IsAnyFile, HasPut, HasPutMoments, HasPutAll, HasFiles, Keeps, KeepsFile}
 use Rattle.jl_store.specs.declared.answer.Keep.TheVariants as keep
 use Rattle.jl_store.proofs.KeepFacts.{file_part, part_alone, keeps_then, keeps_ends, moments_ready, output_apart, output_split, files_then, includes_left, includes_right}
 use Rattle.jl_store.proofs.Orders.{order_then, order_output}
+use Rattle.jl_store.proofs.InTurn.{turns_then, turns_more}
 use Rattle.jl_store.proofs.keeping.keep_files.Goals as goal
 
 pub keep_file-requires-clause-whole : goal.keep_file-requires-clause-whole
@@ -125,3 +126,30 @@ returns-in-NoMemory-clause-order g c t =
     let old = g.F.Folder.view c.args.folder.now in
     let first = c.in-NoMemory.ensures.called t (subst (IsWhole (file_of e Output)) (sym c.as_slice-output.ensures) (c.requires.whole Output)) in
     order_output (IsMakingEntry e) e old.token (moved old (g.F.Folder.view c.keep_file.new.folder)) first.call.own
+
+pub returns-in-Kept-clause-once : goal.returns-in-Kept-clause-once
+returns-in-Kept-clause-once g c t =
+    let e = entry_in c.args.memory.now c.args.name.now c.args.key.now.0 in
+    let old = g.F.Folder.view c.args.folder.now in
+    let mid = g.F.Folder.view c.keep_file.new.folder in
+    let told = c.keep_file.ensures.frame.told t in
+    let first = c.in-Kept.ensures.called t (subst (IsWhole (file_of e Output)) (sym c.as_slice-output.ensures) (c.requires.whole Output)) in
+    turns_then (last_of e Output ∷ []) (moments_of e) old mid (g.F.Folder.view c.keep_moments.new.folder) (c.keep_file.ensures.goes t) (c.keep_moments.ensures.goes told) first.once (c.keep_moments.ensures.once told)
+
+pub returns-in-Skipped-clause-once : goal.returns-in-Skipped-clause-once
+returns-in-Skipped-clause-once g c t =
+    let e = entry_in c.args.memory.now c.args.name.now c.args.key.now.0 in
+    let first = c.in-Skipped.ensures.called t (subst (IsWhole (file_of e Output)) (sym c.as_slice-output.ensures) (c.requires.whole Output)) in
+    turns_more (last_of e Output ∷ []) (moments_of e) (g.F.Folder.view c.args.folder.now) (g.F.Folder.view c.keep_file.new.folder) first.once
+
+pub returns-in-Fault-clause-once : goal.returns-in-Fault-clause-once
+returns-in-Fault-clause-once g c t =
+    let e = entry_in c.args.memory.now c.args.name.now c.args.key.now.0 in
+    let first = c.in-Fault.ensures.called t (subst (IsWhole (file_of e Output)) (sym c.as_slice-output.ensures) (c.requires.whole Output)) in
+    turns_more (last_of e Output ∷ []) (moments_of e) (g.F.Folder.view c.args.folder.now) (g.F.Folder.view c.keep_file.new.folder) first.once
+
+pub returns-in-NoMemory-clause-once : goal.returns-in-NoMemory-clause-once
+returns-in-NoMemory-clause-once g c t =
+    let e = entry_in c.args.memory.now c.args.name.now c.args.key.now.0 in
+    let first = c.in-NoMemory.ensures.called t (subst (IsWhole (file_of e Output)) (sym c.as_slice-output.ensures) (c.requires.whole Output)) in
+    turns_more (last_of e Output ∷ []) (moments_of e) (g.F.Folder.view c.args.folder.now) (g.F.Folder.view c.keep_file.new.folder) first.once

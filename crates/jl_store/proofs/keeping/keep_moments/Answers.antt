@@ -1,4 +1,4 @@
-use Rattle.std.proofs.Common.{◌≡◌, inl, inr, refl, sym, ◌∙◌, subst}
+use Rattle.std.proofs.Common.{◌≡◌, inl, inr, [], ◌∷◌, refl, sym, ◌∙◌, subst}
 use Rattle.jl_folder.specs.declared.moves.Move.TheVariants.{Rename}
 use Rattle.jl_folder.specs.Views.{state, moved}
 use Rattle.jl_entry.specs.declared.names.EntryFile.TheVariants.{Metadata, Access}
@@ -11,6 +11,7 @@ use Rattle.jl_store.specs.Keeping.{entry_in, file_of, last_of, temp_of, text_in,
 use Rattle.jl_store.specs.declared.answer.Keep.TheVariants as keep
 use Rattle.jl_store.proofs.KeepFacts.{file_part, part_alone, keeps_then, keeps_ends, ready_on, files_then, includes_left, includes_right}
 use Rattle.jl_store.proofs.Orders.{moments_front, moments_then}
+use Rattle.jl_store.proofs.InTurn.{turns_then, turns_more}
 use Rattle.jl_store.proofs.keeping.keep_moments.Goals as goal
 
 pub keep_file-requires-clause-whole : goal.keep_file-requires-clause-whole
@@ -132,3 +133,32 @@ returns-in-NoMemory-clause-order g c t =
     let old = g.F.Folder.view c.args.folder.now in
     let first = c.in-NoMemory.ensures.called t (subst (IsWhole (file_of e Metadata)) (sym c.as_slice-metadata.ensures) (c.requires.whole Metadata)) in
     moments_front e old.token (moved old (g.F.Folder.view c.keep_file.new.folder)) first.call.own
+
+pub returns-in-Kept-clause-once : goal.returns-in-Kept-clause-once
+returns-in-Kept-clause-once g c t =
+    let e = entry_in c.args.memory.now c.args.name.now c.args.key.now.0 in
+    let old = g.F.Folder.view c.args.folder.now in
+    let mid = g.F.Folder.view c.keep_file.new.folder in
+    let new = g.F.Folder.view c.keep_file-in-Kept.new.folder in
+    let told = c.keep_file.ensures.frame.told t in
+    let first = c.in-Kept.ensures.called t (subst (IsWhole (file_of e Metadata)) (sym c.as_slice-metadata.ensures) (c.requires.whole Metadata)) in
+    let second = c.keep_file-in-Kept.ensures.called told (subst (IsWhole (file_of e Access)) (sym c.as_slice-access.ensures) (c.requires.whole Access)) in
+    turns_then (last_of e Metadata ∷ []) (last_of e Access ∷ []) old mid new (c.keep_file.ensures.goes t) (c.keep_file-in-Kept.ensures.goes told) first.once second.once
+
+pub returns-in-Skipped-clause-once : goal.returns-in-Skipped-clause-once
+returns-in-Skipped-clause-once g c t =
+    let e = entry_in c.args.memory.now c.args.name.now c.args.key.now.0 in
+    let first = c.in-Skipped.ensures.called t (subst (IsWhole (file_of e Metadata)) (sym c.as_slice-metadata.ensures) (c.requires.whole Metadata)) in
+    turns_more (last_of e Metadata ∷ []) (last_of e Access ∷ []) (g.F.Folder.view c.args.folder.now) (g.F.Folder.view c.keep_file.new.folder) first.once
+
+pub returns-in-Fault-clause-once : goal.returns-in-Fault-clause-once
+returns-in-Fault-clause-once g c t =
+    let e = entry_in c.args.memory.now c.args.name.now c.args.key.now.0 in
+    let first = c.in-Fault.ensures.called t (subst (IsWhole (file_of e Metadata)) (sym c.as_slice-metadata.ensures) (c.requires.whole Metadata)) in
+    turns_more (last_of e Metadata ∷ []) (last_of e Access ∷ []) (g.F.Folder.view c.args.folder.now) (g.F.Folder.view c.keep_file.new.folder) first.once
+
+pub returns-in-NoMemory-clause-once : goal.returns-in-NoMemory-clause-once
+returns-in-NoMemory-clause-once g c t =
+    let e = entry_in c.args.memory.now c.args.name.now c.args.key.now.0 in
+    let first = c.in-NoMemory.ensures.called t (subst (IsWhole (file_of e Metadata)) (sym c.as_slice-metadata.ensures) (c.requires.whole Metadata)) in
+    turns_more (last_of e Metadata ∷ []) (last_of e Access ∷ []) (g.F.Folder.view c.args.folder.now) (g.F.Folder.view c.keep_file.new.folder) first.once

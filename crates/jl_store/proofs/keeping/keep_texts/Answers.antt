@@ -1,15 +1,16 @@
-use Rattle.std.proofs.Common.{◌≡◌, true, refl, ◌∙◌, subst}
+use Rattle.std.proofs.Common.{◌≡◌, [], true, refl, ◌∙◌, subst}
 use Rattle.jl_folder.specs.declared.moves.Move.TheVariants.{Rename}
 use Rattle.jl_folder.specs.State.{is_folder}
 use Rattle.jl_folder.specs.Views.{state, moved}
 use Rattle.jl_entry.specs.declared.names.EntryFile.TheVariants.{Output, Metadata, Access}
 use Rattle.jl_rely.proofs.Since.{goes_then}
 use Rattle.jl_rely.proofs.Alone.{lone_parts}
-use Rattle.jl_store.specs.Keeping.{IsMakingEntry, entry_in, function_path, last_of, temp_of, text_in, AreReady, IsAnyFile, IsReadyToKeep, HasPutAll, HasFiles, Keeps}
+use Rattle.jl_store.specs.Keeping.{IsMakingEntry, lasts_of, entry_path, entry_in, function_path, last_of, temp_of, text_in, AreReady, IsAnyFile, IsReadyToKeep, HasPutAll, HasFiles, Keeps}
 use Rattle.jl_store.specs.declared.answer.Keep.TheVariants as keep
 use Rattle.jl_store.proofs.Drafts.{history_state}
 use Rattle.jl_store.proofs.KeepFacts.{keeps_then, keeps_ends, entry_has, includes_right}
 use Rattle.jl_store.proofs.Orders.{order_later, order_before}
+use Rattle.jl_store.proofs.InTurn.{make_dir_no_rename, turns_moves, turns_then}
 use Rattle.jl_store.proofs.keeping.keep_texts.Goals as goal
 
 pub keep_files-requires-clause-token : goal.keep_files-requires-clause-token
@@ -99,3 +100,27 @@ returns-in-NoMemory-clause-order g c t =
     let e = entry_in c.args.memory.now c.args.name.now c.args.key.now.0 in
     let old = g.F.Folder.view c.args.folder.now in
     order_before (IsMakingEntry e) e old.token (moved old (g.F.Folder.view c.make_entry.new.folder)) (c.make_entry.ensures.makes t)
+
+pub returns-in-Kept-clause-once : goal.returns-in-Kept-clause-once
+returns-in-Kept-clause-once g c t =
+    let e = entry_in c.args.memory.now c.args.name.now c.args.key.now.0 in
+    let old = g.F.Folder.view c.args.folder.now in
+    let mid = g.F.Folder.view c.make_entry.new.folder in
+    let told = c.make_entry.ensures.frame.told t in
+    turns_then [] (lasts_of e) old mid (g.F.Folder.view c.keep_files.new.folder) (c.make_entry.ensures.goes t) (c.keep_files.ensures.goes told)
+    (turns_moves [] (IsMakingEntry e) (make_dir_no_rename (entry_path e)) old mid (record { went = c.make_entry.ensures.goes t; own = c.make_entry.ensures.makes t })) (c.keep_files.ensures.once told)
+
+pub returns-in-Skipped-clause-once : goal.returns-in-Skipped-clause-once
+returns-in-Skipped-clause-once g c t =
+    let e = entry_in c.args.memory.now c.args.name.now c.args.key.now.0 in
+    turns_moves (lasts_of e) (IsMakingEntry e) (make_dir_no_rename (entry_path e)) (g.F.Folder.view c.args.folder.now) (g.F.Folder.view c.make_entry.new.folder) (record { went = c.make_entry.ensures.goes t; own = c.make_entry.ensures.makes t })
+
+pub returns-in-Fault-clause-once : goal.returns-in-Fault-clause-once
+returns-in-Fault-clause-once g c t =
+    let e = entry_in c.args.memory.now c.args.name.now c.args.key.now.0 in
+    turns_moves (lasts_of e) (IsMakingEntry e) (make_dir_no_rename (entry_path e)) (g.F.Folder.view c.args.folder.now) (g.F.Folder.view c.make_entry.new.folder) (record { went = c.make_entry.ensures.goes t; own = c.make_entry.ensures.makes t })
+
+pub returns-in-NoMemory-clause-once : goal.returns-in-NoMemory-clause-once
+returns-in-NoMemory-clause-once g c t =
+    let e = entry_in c.args.memory.now c.args.name.now c.args.key.now.0 in
+    turns_moves (lasts_of e) (IsMakingEntry e) (make_dir_no_rename (entry_path e)) (g.F.Folder.view c.args.folder.now) (g.F.Folder.view c.make_entry.new.folder) (record { went = c.make_entry.ensures.goes t; own = c.make_entry.ensures.makes t })
