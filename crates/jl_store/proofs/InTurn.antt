@@ -57,7 +57,7 @@ emptying_no_rename entry (Remove p) is = tt
 emptying_no_rename entry (RemoveDir p) is = tt
 
 pub clearing_no_rename : (function : PathView) (m : Move) → IsClearing function m → IsNoRename m
-clearing_no_rename function m is = emptying_no_rename _ m is.2.1
+clearing_no_rename function m is = emptying_no_rename _ m is.2
 
 pub make_dir_no_rename : (path : PathView) (m : Move) → m ≡ MakeDir path → IsNoRename m
 make_dir_no_rename path m is = subst IsNoRename (sym is) (made path)

@@ -33,6 +33,7 @@ pub mod SkipCauses
 pub mod StorePaths
 pub mod StoringLemmas
 pub mod TaskLemmas
+pub mod Tasks
 pub mod TidyFolders
 pub mod Truths
 pub mod Turning

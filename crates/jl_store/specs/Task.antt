@@ -1,6 +1,7 @@
 -- A cached call as its three parts, with what stood between them: the code is checked, the entry is looked for, and the answer is kept.
 use Rattle.std.specs.Prelude.{◌≡◌, ◌≢◌, ◌⊎◌, ℕ, ◌-◌, List, [], ◌∷◌, ◌++◌, ⊤}
 use Rattle.jl_text.specs.Counts.{Rose}
+use Rattle.jl_text.specs.Paths.{PathView}
 use Rattle.jl_folder.specs.Views.{FolderView, FolderAnswers, FolderKeeps, state, moved}
 use Rattle.jl_folder.specs.Calls.{Waits}
 use Rattle.jl_streams.specs.Moments.{moment_of, moments_after}
@@ -174,6 +175,13 @@ IfAnswered (Hit v) did = did
 IfAnswered (Computed v) did = did
 IfAnswered (Error e) did = did
 IfAnswered NoMemory did = ⊤
+
+-- the final names that a call may put in place, in their order: the code's file, and then the last access, or the three of a new entry
+abbrev pub lasts_asked : Cached → Asked → List PathView
+lasts_asked (Hit v) a = code_path a.root a.module_name a.function_name ∷ last_of (entry_asked a) Access ∷ []
+lasts_asked (Computed v) a = code_path a.root a.module_name a.function_name ∷ lasts_of (entry_asked a)
+lasts_asked (Error e) a = code_path a.root a.module_name a.function_name ∷ []
+lasts_asked NoMemory a = code_path a.root a.module_name a.function_name ∷ lasts_of (entry_asked a)
 
 -- What one cached call did between two points, where the folder tells: lawful throughout, by moves of its answer; and, if memory sufficed, its
 -- three parts, one after the other.

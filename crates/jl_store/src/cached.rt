@@ -12,7 +12,7 @@ ghost use Rattle.jl_value.specs.Canonical.{text_of};
 ghost use Rattle.jl_value.specs.Key.{args_tree, key_of};
 ghost use Rattle.jl_value.specs.Proper.{IsProper as IsProperTree};
 ghost use Rattle.jl_value.specs.Library.{value as value_is};
-ghost use Rattle.jl_entry.specs.Entry.{Members};
+ghost use Rattle.jl_entry.specs.Entry.{IsHeadOf, Members};
 ghost use Rattle.jl_entry.specs.Moments.{IsMoment, access_text};
 ghost use Rattle.jl_entry.specs.Names.{root_of};
 ghost use Rattle.jl_entry.specs.declared.names.EntryFile.{EntryFile};
@@ -32,19 +32,20 @@ ghost use Rattle.jl_store.specs.Warned.{IsOrderly, Warns, WarnsOfOthers};
 ghost use Rattle.jl_store.specs.Done.{OfKeeping, PartDone, KeepsOrWarns, AnswersOrWarns, DoesOrWarns};
 ghost use Rattle.jl_store.specs.Parts.{WarnsFrom, HasFunction, HasFolder, keep_warns, check_warns};
 ghost use Rattle.jl_store.specs.Trust.{IsTrusted};
+ghost use Rattle.jl_store.specs.Renames.{PutsInTurn};
 ghost use Rattle.jl_store.specs.Stretch.{point};
-ghost use Rattle.jl_store.specs.Task.{HasFound, HasKept, HasAnswered, AnswerDid, IfAnswered, TaskDid};
+ghost use Rattle.jl_store.specs.Task.{HasFound, HasKept, HasAnswered, AnswerDid, IfAnswered, TaskDid, lasts_asked};
 
 use crate::answer::Keep;
 use crate::checking::check_code;
 use crate::checks::CodeCheck;
 use crate::found::Look;
-use crate::keeping::{keep, touch};
-use crate::looking::{look, warn};
+use crate::keeping::{keep_as, touch};
+use crate::looking::{Wanted, look_for, wanted, warn};
 use crate::memory::{Memory, WarnKind, Warning};
 use jl_folder::{Folder, Text};
 use jl_streams::Host;
-use jl_value::{Args, Called, Key, Library, Outcome, TaskError, Value, digest};
+use jl_value::{Args, Called, Key, Library, Outcome, TaskError, Value};
 use std::alloc::{AllocError, Global};
 
 /// What a cached call answers.
@@ -187,6 +188,7 @@ fn computed<F: Folder>(
     memory: &Memory,
     folder: &mut F,
     name: &str,
+    key: &Key,
     code: &str,
     args: &Args,
     value: Value,
@@ -197,6 +199,7 @@ fn computed<F: Folder>(
     requires token { (F.view folder.old).token ≡ memory.now.token }
     requires module_name { IsTrue (is_name memory.now.«module») }
     requires function_name { IsTrue (is_name name.now) }
+    requires key { key.now.0 ≡ key_of args.now }
     requires keepable { IsKeepable code.now args.now (tree_of value) }
     requires args_proper { IsProperTree (args_tree args.now) }
     requires value_proper { IsProperTree (tree_of value) }
@@ -241,13 +244,10 @@ fn computed<F: Folder>(
         warnings.old.items warnings.new.items (F.view folder.old) (F.view folder.new) }
     ensures frame { FolderKeeps (F.view folder.old) (F.view folder.new) }
 {
-    let Ok(key) = digest(alloc, args) else {
-        return Cached::NoMemory;
-    };
-    let kept = keep(
-        alloc, memory, folder, name, code, args, &value, duration, moment,
+    let kept = keep_as(
+        alloc, memory, folder, name, key, code, args, &value, duration, moment,
     );
-    match warn_of(alloc, warnings, kept, name, &key) {
+    match warn_of(alloc, warnings, kept, name, key) {
         Ok(()) => Cached::Computed(value),
         Err(_) => Cached::NoMemory,
     }
@@ -261,6 +261,7 @@ fn missed<L: Library, F: Folder, H: Host>(
     folder: &mut F,
     host: &mut H,
     name: &str,
+    key: &Key,
     code: &str,
     args: &Args,
     warnings: &mut Vec<Warning>,
@@ -268,6 +269,7 @@ fn missed<L: Library, F: Folder, H: Host>(
     requires token { (F.view folder.old).token ≡ memory.now.token }
     requires module_name { IsTrue (is_name memory.now.«module») }
     requires function_name { IsTrue (is_name name.now) }
+    requires key { key.now.0 ≡ key_of args.now }
     requires defined { L.code (L.loaded lib.old) name.now ≡ Some code.now }
     requires code { length code.now ≤ MOST_TEXT_BYTES }
     requires proper { IsProperTree (args_tree args.now) }
@@ -323,6 +325,7 @@ fn missed<L: Library, F: Folder, H: Host>(
             memory,
             folder,
             name,
+            key,
             code,
             args,
             value,
@@ -345,7 +348,7 @@ fn answered<L: Library, F: Folder, H: Host>(
     name: &str,
     code: &str,
     args: &Args,
-    key: &Key,
+    wanted: &Wanted,
     warnings: &mut Vec<Warning>,
 ) -> Cached
     requires token { (F.view folder.old).token ≡ memory.now.token }
@@ -356,7 +359,8 @@ fn answered<L: Library, F: Folder, H: Host>(
     requires proper { IsProperTree (args_tree args.now) }
     requires depth { nesting (args_tree args.now) ≤ 64 }
     requires size { length (text_of (args_tree args.now)) ≤ MOST_TEXT_BYTES }
-    requires key { key.now.0 ≡ key_of args.now }
+    requires key { wanted.now.key.0 ≡ key_of args.now }
+    requires head { IsHeadOf wanted.now.head code.now args.now }
     ensures lawful { (F.view folder.old).told
         → CallsFolder (IsLawful (root_of memory.now.location) L.answer)
         (IsLawful (root_of memory.now.location) L.answer) (IsAnswering result
@@ -405,9 +409,10 @@ fn answered<L: Library, F: Folder, H: Host>(
     ensures host { HostKeeps (H.view host.old) (H.view host.new) }
     ensures clock { (H.view host.old).told → LeftAfter result (H.view host.old) (H.view host.new) }
 {
-    match look(alloc, memory, folder, name, code, args, warnings) {
+    let key = &wanted.key;
+    match look_for(alloc, memory, folder, name, wanted, warnings) {
         Look::Hit(value) => found(alloc, memory, folder, host, name, key, value, warnings),
-        Look::Miss => missed(alloc, memory, lib, folder, host, name, code, args, warnings),
+        Look::Miss => missed(alloc, memory, lib, folder, host, name, key, code, args, warnings),
         Look::NoMemory => Cached::NoMemory,
     }
 }
@@ -493,6 +498,11 @@ pub fn call_cached<L: Library, F: Folder, H: Host>(
         → IsSound (root_of memory.now.location) L.answer (state (F.view folder.old))
         → (Rose (F.view folder.old).faults (F.view folder.new).faults → ⊥)
         → WarnsOfOthers warnings.old.items warnings.new.items }
+    // Each final name is put in place at most once: the code's file, then the last access or the entry's three files.
+    ensures once { (c : List ℕ) (n : ℕ) → L.code (L.loaded lib.old) name.now ≡ Some c
+        → L.line (L.loaded lib.old) name.now ≡ n → (F.view folder.old).told
+        → IfAnswered result (PutsInTurn (lasts_asked result (asked memory.now name.now c n args.now))
+        (F.view folder.old).token (moved (F.view folder.old) (F.view folder.new))) }
     // The same as its three parts, with what stood between them.
     ensures did { (c : List ℕ) (n : ℕ) → L.code (L.loaded lib.old) name.now ≡ Some c
         → L.line (L.loaded lib.old) name.now ≡ n → (F.view folder.old).told
@@ -507,14 +517,14 @@ pub fn call_cached<L: Library, F: Folder, H: Host>(
     let Ok(code) = code_in(alloc, lib, name) else {
         return Cached::NoMemory;
     };
-    let Ok(key) = digest(alloc, args) else {
+    let text = code.text.as_str();
+    let Ok(want) = wanted(alloc, text, args) else {
         return Cached::NoMemory;
     };
-    let text = code.text.as_str();
     let check = check_code(alloc, memory, folder, name, text, code.line);
-    match warn_of_check(alloc, warnings, check, name, &key) {
+    match warn_of_check(alloc, warnings, check, name, &want.key) {
         Ok(()) => answered(
-            alloc, memory, lib, folder, host, name, text, args, &key, warnings,
+            alloc, memory, lib, folder, host, name, text, args, &want, warnings,
         ),
         Err(_) => Cached::NoMemory,
     }

@@ -334,6 +334,53 @@ fn entry_texts(
     })
 }
 
+// Keeps an answer under the key of its arguments.
+pub(crate) fn keep_as<F: Folder>(
+    alloc: Global,
+    memory: &Memory,
+    folder: &mut F,
+    name: &str,
+    key: &Key,
+    code: &str,
+    args: &Args,
+    value: &Value,
+    duration: u64,
+    moment: u64,
+) -> Keep
+    requires token { (F.view folder.old).token ≡ memory.now.token }
+    requires module_name { IsTrue (is_name memory.now.«module») }
+    requires function_name { IsTrue (is_name name.now) }
+    requires key { key.now.0 ≡ key_of args.now }
+    requires keepable { IsKeepable code.now args.now (tree_of value.now) }
+    requires duration { IsMoment duration }
+    requires moment { IsMoment moment }
+    ensures goes { (F.view folder.old).told → GoesOn (F.view folder.old) (F.view folder.new) }
+    ensures frame { FolderAnswers (result ≡ Keep.Fault) (F.view folder.old) (F.view folder.new) }
+    ensures once { (F.view folder.old).told
+        → PutsInTurn (lasts_of (entry_in memory.now name.now (key_of args.now)))
+        (F.view folder.old).token (moved (F.view folder.old) (F.view folder.new)) }
+    ensures order { (F.view folder.old).told
+        → InOrder (IsMakingEntry (entry_in memory.now name.now (key_of args.now)))
+        (entry_in memory.now name.now (key_of args.now)) (F.view folder.old).token
+        (moved (F.view folder.old) (F.view folder.new)) }
+    ensures called { (F.view folder.old).told
+        → Keeps (entry_in memory.now name.now (key_of args.now))
+        (texts_of code.now args.now (tree_of value.now) duration moment)
+        (IsReadyToKeep (entry_in memory.now name.now (key_of args.now)))
+        (HasPutAll (entry_in memory.now name.now (key_of args.now)) (F.view folder.old).token)
+        result (F.view folder.old) (F.view folder.new) }
+    ensures alone { (F.view folder.old).told → result ≡ Keep.Kept
+        → IsLone (F.view folder.old).token (moved (F.view folder.old) (F.view folder.new))
+        → HasEntry (entry_in memory.now name.now (key_of args.now)) (F.view folder.old).token
+        (texts_of code.now args.now (tree_of value.now) duration moment) (state (F.view folder.old))
+        (state (F.view folder.new)) }
+{
+    let Ok(texts) = entry_texts(alloc, code, args, value, duration, moment) else {
+        return Keep::NoMemory;
+    };
+    keep_texts(alloc, memory, folder, name, key, &texts)
+}
+
 /// Keeps an answer: makes the entry's folder and publishes the output, the metadata and the last access; the first that is skipped or fails ends it.
 /// The duration and the moment are in microseconds. It knows no library: whether the value is the code's answer is the caller's part.
 pub fn keep<F: Folder>(
@@ -375,13 +422,12 @@ pub fn keep<F: Folder>(
         (texts_of code.now args.now (tree_of value.now) duration moment) (state (F.view folder.old))
         (state (F.view folder.new)) }
 {
-    let Ok(key) = digest(alloc, args) else {
-        return Keep::NoMemory;
-    };
-    let Ok(texts) = entry_texts(alloc, code, args, value, duration, moment) else {
-        return Keep::NoMemory;
-    };
-    keep_texts(alloc, memory, folder, name, &key, &texts)
+    match digest(alloc, args) {
+        Ok(key) => keep_as(
+            alloc, memory, folder, name, &key, code, args, value, duration, moment,
+        ),
+        Err(_) => Keep::NoMemory,
+    }
 }
 
 /// Publishes the last access of an entry alone. The moment is in microseconds.

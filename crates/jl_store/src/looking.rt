@@ -1,8 +1,10 @@
 // Looking for an answer in the cache.
-ghost use Rattle.std.specs.Prelude.{◌≡◌, ◌<◌, ◌++◌, ◌∷◌, [], ℕ, IsTrue, IfOk, OnOk, OnErr, vec_len, vec_capacity};
+ghost use Rattle.std.specs.Prelude.{◌≡◌, ◌<◌, ◌++◌, ◌∷◌, [], ℕ, List, IsTrue, IfOk, OnOk, OnErr, vec_len, vec_capacity};
 ghost use Rattle.jl_text.specs.Texts.{is_name};
 ghost use Rattle.jl_folder.specs.Views.{FolderAnswers, state, moved};
 ghost use Rattle.jl_folder.specs.Calls.{Waits};
+ghost use Rattle.jl_value.specs.Key.{key_of};
+ghost use Rattle.jl_entry.specs.Entry.{IsHeadOf, Members};
 ghost use Rattle.jl_entry.specs.Names.{root_of};
 ghost use Rattle.jl_protocol.specs.Whole.{Answers};
 ghost use Rattle.jl_store.specs.Asked.{asked};
@@ -13,20 +15,21 @@ ghost use Rattle.jl_store.specs.Warned.{IsOrderly};
 use crate::found::{Found, Look};
 use crate::memory::{Memory, WarnKind, Warning};
 use crate::reading::read_final;
-use jl_entry::{EntryFile, ReadOutput, entry_file, read_output};
+use jl_entry::{EntryFile, ReadOutput, entry_file, entry_head, read_entry};
 use jl_folder::{FileRead, Folder, Path, Text};
 use jl_text::limits::MOST_ENTRY_BYTES;
-use jl_value::{Args, Key, Value, digest};
+use jl_value::{Args, Key, Value, canonical_table};
 use std::alloc::{AllocError, Global};
 
-// What the bytes of an output are to this code and these arguments.
-fn judge(alloc: Global, code: &str, args: &Args, bytes: &[u8]) -> Found
-    ensures { IsJudged result bytes.now code.now args.now }
+// What the bytes of an output are to the code and the arguments whose entries begin with this head.
+fn judge(alloc: Global, head: &str, bytes: &[u8]) -> Found
+    ensures { (code : List ℕ) (ps : Members) → IsHeadOf head.now code ps
+        → IsJudged result bytes.now code ps }
 {
     if bytes.len() > MOST_ENTRY_BYTES {
         return Found::Damaged;
     }
-    match read_output(alloc, code, args, bytes) {
+    match read_entry(alloc, head, bytes) {
         ReadOutput::Value(value) => Found::Value(value),
         ReadOutput::NotMine => Found::NotMine,
         ReadOutput::Damaged => Found::Damaged,
@@ -35,13 +38,16 @@ fn judge(alloc: Global, code: &str, args: &Args, bytes: &[u8]) -> Found
 }
 
 // Reads an output through one open number, and compares.
-fn find<F: Folder>(alloc: Global, folder: &mut F, output: &Path, code: &str, args: &Args) -> Found
+fn find<F: Folder>(alloc: Global, folder: &mut F, output: &Path, head: &str) -> Found
     ensures frame { FolderAnswers (result ≡ Found.Fault) (F.view folder.old) (F.view folder.new) }
     ensures waits { (F.view folder.old).told → Waits (F.view folder.old) (F.view folder.new) }
-    ensures finds { (F.view folder.old).told → Finds output.now code.now args.now result (state (F.view folder.old)) (moved (F.view folder.old) (F.view folder.new)) }
+    ensures finds { (F.view folder.old).told → (code : List ℕ) (ps : Members)
+        → IsHeadOf head.now code ps
+        → Finds output.now code ps result (state (F.view folder.old))
+        (moved (F.view folder.old) (F.view folder.new)) }
 {
     match read_final(alloc, folder, output) {
-        FileRead::Bytes(bytes) => judge(alloc, code, args, bytes.as_slice()),
+        FileRead::Bytes(bytes) => judge(alloc, head, bytes.as_slice()),
         FileRead::NoFile => Found::Absent,
         FileRead::Failed => Found::Fault,
         FileRead::NoMemory => Found::NoMemory,
@@ -56,7 +62,8 @@ pub fn warn(
     name: &str,
     key: Key,
 ) -> Result<(), AllocError>
-    ensures ok { OnOk result (warnings.new.items ≡ warnings.old.items ++ record { kind = kind; name = name.now; key = key } ∷ []) }
+    ensures ok { OnOk result (warnings.new.items ≡ warnings.old.items ++ record
+        { kind = kind; name = name.now; key = key } ∷ []) }
     ensures err { OnErr result (warnings.new.items ≡ warnings.old.items) }
 {
     let name = Text::new(String::from_str(alloc, name)?);
@@ -101,6 +108,73 @@ fn settle(found: Found, name: Text, key: Key, warnings: &mut Vec<Warning>) -> Lo
     }
 }
 
+// What the entry of a code and of arguments is found by.
+#[derive(Drop)]
+pub(crate) struct Wanted {
+    pub(crate) key: Key,
+    pub(crate) head: Text,
+}
+
+// Writes the arguments once, for the key and for what the entry begins with.
+pub(crate) fn wanted(alloc: Global, code: &str, args: &Args) -> Result<Wanted, AllocError>
+    ensures key { IfOk result (λ w. w.key.0 ≡ key_of args.now) }
+    ensures head { IfOk result (λ w. IsHeadOf w.head code.now args.now) }
+{
+    let text = canonical_table(alloc, args.value())?;
+    let head = entry_head(alloc, code, text.as_str())?;
+    let key = Key::of_text(text.as_str());
+    Ok(Wanted { key, head })
+}
+
+// Looks for the answer by its key and by what its entry begins with.
+pub(crate) fn look_for<F: Folder>(
+    alloc: Global,
+    memory: &Memory,
+    folder: &mut F,
+    name: &str,
+    wanted: &Wanted,
+    warnings: &mut Vec<Warning>,
+) -> Look
+    requires module_name { IsTrue (is_name memory.now.«module») }
+    requires function_name { IsTrue (is_name name.now) }
+    ensures frame { (ps : Members) → wanted.now.key.0 ≡ key_of ps
+        → FolderAnswers
+        (warnings.new.items ≡ warnings.old.items ++ warning WarnKind.LoadFault name.now ps ∷ [])
+        (F.view folder.old) (F.view folder.new) }
+    ensures waits { (F.view folder.old).told → Waits (F.view folder.old) (F.view folder.new) }
+    ensures looks { (code : List ℕ) (n : ℕ) (ps : Members) → IsHeadOf wanted.now.head code ps
+        → wanted.now.key.0 ≡ key_of ps
+        → Looks result (asked memory.now name.now code n ps) warnings.old.items warnings.new.items
+        (F.view folder.old) (F.view folder.new) }
+    ensures tidy { (F.view folder.old).told → (code : List ℕ) (n : ℕ) (ps : Members)
+        → IsHeadOf wanted.now.head code ps → wanted.now.key.0 ≡ key_of ps
+        → IsOrderly (root_of memory.now.location) (F.view folder.old) (F.view folder.new)
+        → LooksTidy result (asked memory.now name.now code n ps) warnings.old.items
+        warnings.new.items (F.view folder.old) (F.view folder.new) }
+    ensures sound { (code : List ℕ) (ps : Members) → IsHeadOf wanted.now.head code ps
+        → wanted.now.key.0 ≡ key_of ps → (answer : Answers)
+        → IsTrusted (root_of memory.now.location) answer (F.view folder.old) (F.view folder.new)
+        → IsAnswered result answer code ps }
+{
+    let module = memory.module.as_str();
+    let key = Key(wanted.key.0);
+    let Ok(output) = entry_file(
+        alloc,
+        EntryFile::Output,
+        &memory.location,
+        module,
+        name,
+        &key,
+    ) else {
+        return Look::NoMemory;
+    };
+    let Ok(text) = make_room(alloc, warnings, name) else {
+        return Look::NoMemory;
+    };
+    let found = find(alloc, folder, &output, wanted.head.as_str());
+    settle(found, text, key, warnings)
+}
+
 /// Looks for the answer of this code on these arguments: opens the entry's output and reads that one file to its end. Another
 /// code's entry and damage are warned of, and so is a fault in opening or reading.
 pub fn look<F: Folder>(
@@ -115,30 +189,22 @@ pub fn look<F: Folder>(
     requires module_name { IsTrue (is_name memory.now.«module») }
     requires function_name { IsTrue (is_name name.now) }
     // A fault rose exactly where a load fault is warned of: want of memory is never told in its place.
-    ensures frame { FolderAnswers (warnings.new.items ≡ warnings.old.items ++ warning WarnKind.LoadFault name.now args.now ∷ []) (F.view folder.old) (F.view folder.new) }
+    ensures frame { FolderAnswers (warnings.new.items ≡ warnings.old.items ++ warning
+        WarnKind.LoadFault name.now args.now ∷ []) (F.view folder.old) (F.view folder.new) }
     ensures waits { (F.view folder.old).told → Waits (F.view folder.old) (F.view folder.new) }
-    ensures looks { (n : ℕ) → Looks result (asked memory.now name.now code.now n args.now) warnings.old.items warnings.new.items (F.view folder.old) (F.view folder.new) }
-    ensures tidy { (F.view folder.old).told → (n : ℕ) → IsOrderly (root_of memory.now.location) (F.view folder.old) (F.view folder.new) →
-        LooksTidy result (asked memory.now name.now code.now n args.now) warnings.old.items warnings.new.items (F.view folder.old) (F.view folder.new) }
-    ensures sound { (answer : Answers) → IsTrusted (root_of memory.now.location) answer (F.view folder.old) (F.view folder.new) → IsAnswered result answer code.now args.now }
+    ensures looks { (n : ℕ)
+        → Looks result (asked memory.now name.now code.now n args.now) warnings.old.items
+        warnings.new.items (F.view folder.old) (F.view folder.new) }
+    ensures tidy { (F.view folder.old).told → (n : ℕ)
+        → IsOrderly (root_of memory.now.location) (F.view folder.old) (F.view folder.new)
+        → LooksTidy result (asked memory.now name.now code.now n args.now) warnings.old.items
+        warnings.new.items (F.view folder.old) (F.view folder.new) }
+    ensures sound { (answer : Answers)
+        → IsTrusted (root_of memory.now.location) answer (F.view folder.old) (F.view folder.new)
+        → IsAnswered result answer code.now args.now }
 {
-    let Ok(key) = digest(alloc, args) else {
-        return Look::NoMemory;
-    };
-    let module = memory.module.as_str();
-    let Ok(output) = entry_file(
-        alloc,
-        EntryFile::Output,
-        &memory.location,
-        module,
-        name,
-        &key,
-    ) else {
-        return Look::NoMemory;
-    };
-    let Ok(text) = make_room(alloc, warnings, name) else {
-        return Look::NoMemory;
-    };
-    let found = find(alloc, folder, &output, code, args);
-    settle(found, text, key, warnings)
+    match wanted(alloc, code, args) {
+        Ok(wanted) => look_for(alloc, memory, folder, name, &wanted, warnings),
+        Err(_) => Look::NoMemory,
+    }
 }

@@ -47,14 +47,14 @@ returns-in-Hit-clause-lawful g c = λ told.
     let root = root_of memory.location in
     let r = c.found.result in
     let old = g.F.Folder.view c.args.folder.now in
-    let mid = g.F.Folder.view c.look.new.folder in
+    let mid = g.F.Folder.view c.look_for.new.folder in
     let new = g.F.Folder.view c.found.new.folder in
     let e = entry_in memory name (key_of c.args.args.now) in
-    let called = c.found.ensures.lawful (c.look.ensures.frame.told told) answer in
+    let called = c.found.ensures.lawful ((c.look_for.ensures.frame c.args.args.now c.requires.key).told told) answer in
     let keyed = subst (λ (k : List ℕ). Lawfully root answer (IsAnswering r (entry_in memory name k) mid.token) mid new) c.requires.key called in
     lawful_then root answer (IsAnswering r e old.token) old mid new
-    (lawful_waits root answer (IsAnswering r e old.token) old mid c.look.ensures.frame.token (c.look.ensures.waits told))
-    (subst (λ (u : List ℕ). Lawfully root answer (IsAnswering r e u) mid new) c.look.ensures.frame.token keyed)
+    (lawful_waits root answer (IsAnswering r e old.token) old mid (c.look_for.ensures.frame c.args.args.now c.requires.key).token (c.look_for.ensures.waits told))
+    (subst (λ (u : List ℕ). Lawfully root answer (IsAnswering r e u) mid new) (c.look_for.ensures.frame c.args.args.now c.requires.key).token keyed)
 
 pub returns-in-Miss-clause-lawful : goal.returns-in-Miss-clause-lawful
 returns-in-Miss-clause-lawful g c = λ told.
@@ -62,16 +62,16 @@ returns-in-Miss-clause-lawful g c = λ told.
     let root = root_of c.args.memory.now.location in
     let r = c.missed.result in
     let old = g.F.Folder.view c.args.folder.now in
-    let mid = g.F.Folder.view c.look.new.folder in
+    let mid = g.F.Folder.view c.look_for.new.folder in
     let new = g.F.Folder.view c.missed.new.folder in
     let e = entry_in c.args.memory.now c.args.name.now (key_of c.args.args.now) in
     lawful_then root answer (IsAnswering r e old.token) old mid new
-    (lawful_waits root answer (IsAnswering r e old.token) old mid c.look.ensures.frame.token (c.look.ensures.waits told))
-    (subst (λ (u : List ℕ). Lawfully root answer (IsAnswering r e u) mid new) c.look.ensures.frame.token (c.missed.ensures.lawful (c.look.ensures.frame.told told)))
+    (lawful_waits root answer (IsAnswering r e old.token) old mid (c.look_for.ensures.frame c.args.args.now c.requires.key).token (c.look_for.ensures.waits told))
+    (subst (λ (u : List ℕ). Lawfully root answer (IsAnswering r e u) mid new) (c.look_for.ensures.frame c.args.args.now c.requires.key).token (c.missed.ensures.lawful ((c.look_for.ensures.frame c.args.args.now c.requires.key).told told)))
 
 pub returns-in-NoMemory-clause-lawful : goal.returns-in-NoMemory-clause-lawful
 returns-in-NoMemory-clause-lawful g c = λ told.
-    lawful_waits (root_of c.args.memory.now.location) g.L.Library.answer _ (g.F.Folder.view c.args.folder.now) (g.F.Folder.view c.look.new.folder) c.look.ensures.frame.token (c.look.ensures.waits told)
+    lawful_waits (root_of c.args.memory.now.location) g.L.Library.answer _ (g.F.Folder.view c.args.folder.now) (g.F.Folder.view c.look_for.new.folder) (c.look_for.ensures.frame c.args.args.now c.requires.key).token (c.look_for.ensures.waits told)
 
 -- ---- its answer
 
@@ -80,13 +80,13 @@ returns-in-Hit-clause-answer g c =
     let answer = g.L.Library.answer in
     let root = root_of c.args.memory.now.location in
     let old = g.F.Folder.view c.args.folder.now in
-    let mid = g.F.Folder.view c.look.new.folder in
+    let mid = g.F.Folder.view c.look_for.new.folder in
     let new = g.F.Folder.view c.found.new.folder in
     found_answer c.found.result c.in-Hit.value (answer c.args.code.now c.args.args.now) (IsTrusted root answer old new) c.found.ensures.found
     (λ (trust : IsTrusted root answer old new).
-    let first = goes_waits old mid c.look.ensures.frame.token (c.look.ensures.waits trust.0) in
-    let second = (c.found.ensures.lawful (c.look.ensures.frame.told trust.0) answer).went in
-    c.in-Hit.ensures.sound answer (trusted_front root answer old mid new first second trust))
+    let first = goes_waits old mid (c.look_for.ensures.frame c.args.args.now c.requires.key).token (c.look_for.ensures.waits trust.0) in
+    let second = (c.found.ensures.lawful ((c.look_for.ensures.frame c.args.args.now c.requires.key).told trust.0) answer).went in
+    c.in-Hit.ensures.sound c.args.code.now c.args.args.now c.requires.head c.requires.key answer (trusted_front root answer old mid new first second trust))
 
 pub returns-in-Hit-clause-calls : goal.returns-in-Hit-clause-calls
 returns-in-Hit-clause-calls g c = found_count c.found.result c.in-Hit.value _ c.found.ensures.found
@@ -103,44 +103,44 @@ pub returns-in-Hit-clause-warns : goal.returns-in-Hit-clause-warns
 returns-in-Hit-clause-warns g c = λ n.
     let a = asked c.args.memory.now c.args.name.now c.args.code.now n c.args.args.now in
     let old = g.F.Folder.view c.args.folder.now in
-    let mid = g.F.Folder.view c.look.new.folder in
+    let mid = g.F.Folder.view c.look_for.new.folder in
     let new = g.F.Folder.view c.found.new.folder in
     let ws = c.args.warnings.now.items in
-    let ws1 = c.look.new.warnings.items in
-    let frame = c.look.ensures.frame in
-    let looks = c.in-Hit.ensures.looks n in
-    let first = λ (t : old.told). goes_waits old mid frame.token (c.look.ensures.waits t) in
+    let ws1 = c.look_for.new.warnings.items in
+    let frame = (c.look_for.ensures.frame c.args.args.now c.requires.key) in
+    let looks = c.in-Hit.ensures.looks c.args.code.now n c.args.args.now c.requires.head c.requires.key in
+    let first = λ (t : old.told). goes_waits old mid frame.token (c.look_for.ensures.waits t) in
     let second = λ (t : mid.told). (c.found.ensures.lawful t g.L.Library.answer).went in
     warns_then a old mid new c.requires.token (answers_keeps old mid frame) c.found.ensures.frame first second (HasFunction a) (HasFolder a) ws ws1 c.found.new.warnings.items
     (λ t orderly ready.
     ⊎_elim (λ (is : HasFolder a (state mid)). inl is) (λ (touched : TouchedByOther a.token (UsesCall a) (moved old mid)). inr (inl touched))
-    (found_home a old mid (first t) c.requires.token _ (waits_silent old mid frame.token (c.look.ensures.waits t)).own orderly (looks.1 t)))
-    (look_warns a (HasFunction a) old mid ws ws1 (look.Hit c.in-Hit.value) looks (λ t orderly. c.in-Hit.ensures.tidy t n orderly))
+    (found_home a old mid (first t) c.requires.token _ (waits_silent old mid frame.token (c.look_for.ensures.waits t)).own orderly (looks.1 t)))
+    (look_warns a (HasFunction a) old mid ws ws1 (look.Hit c.in-Hit.value) looks (λ t orderly. c.in-Hit.ensures.tidy t c.args.code.now n c.args.args.now c.requires.head c.requires.key orderly))
     (c.found.ensures.warns c.args.code.now n c.args.args.now c.requires.key)
 
 pub returns-in-Miss-clause-warns : goal.returns-in-Miss-clause-warns
 returns-in-Miss-clause-warns g c = λ n.
     let a = asked c.args.memory.now c.args.name.now c.args.code.now n c.args.args.now in
     let old = g.F.Folder.view c.args.folder.now in
-    let mid = g.F.Folder.view c.look.new.folder in
+    let mid = g.F.Folder.view c.look_for.new.folder in
     let new = g.F.Folder.view c.missed.new.folder in
     let ws = c.args.warnings.now.items in
-    let ws1 = c.look.new.warnings.items in
-    let frame = c.look.ensures.frame in
-    let looks = c.in-Miss.ensures.looks n in
-    let first = λ (t : old.told). goes_waits old mid frame.token (c.look.ensures.waits t) in
+    let ws1 = c.look_for.new.warnings.items in
+    let frame = (c.look_for.ensures.frame c.args.args.now c.requires.key) in
+    let looks = c.in-Miss.ensures.looks c.args.code.now n c.args.args.now c.requires.head c.requires.key in
+    let first = λ (t : old.told). goes_waits old mid frame.token (c.look_for.ensures.waits t) in
     let second = λ (t : mid.told). (c.missed.ensures.lawful t).went in
     warns_then a old mid new c.requires.token (answers_keeps old mid frame) c.missed.ensures.frame first second (HasFunction a) (HasFunction a) ws ws1 c.missed.new.warnings.items
     (λ t orderly ready.
     ⊎_elim (λ (is : HasFunction a (state mid)). inl is) (λ (touched : TouchedByOther a.token (UsesCall a) (moved old mid)). inr (inl touched))
-    (missed_home a old mid (first t) c.requires.token (waits_silent old mid frame.token (c.look.ensures.waits t)).own ready))
-    (look_warns a (HasFunction a) old mid ws ws1 look.Miss looks (λ t orderly. c.in-Miss.ensures.tidy t n orderly))
+    (missed_home a old mid (first t) c.requires.token (waits_silent old mid frame.token (c.look_for.ensures.waits t)).own ready))
+    (look_warns a (HasFunction a) old mid ws ws1 look.Miss looks (λ t orderly. c.in-Miss.ensures.tidy t c.args.code.now n c.args.args.now c.requires.head c.requires.key orderly))
     (c.missed.ensures.warns n)
 
 pub returns-in-NoMemory-clause-warns : goal.returns-in-NoMemory-clause-warns
 returns-in-NoMemory-clause-warns g c = λ n.
     let a = asked c.args.memory.now c.args.name.now c.args.code.now n c.args.args.now in
-    warns_none a (HasFunction a) c.args.warnings.now.items c.look.new.warnings.items (g.F.Folder.view c.args.folder.now) (g.F.Folder.view c.look.new.folder) (c.in-NoMemory.ensures.looks n)
+    warns_none a (HasFunction a) c.args.warnings.now.items c.look_for.new.warnings.items (g.F.Folder.view c.args.folder.now) (g.F.Folder.view c.look_for.new.folder) (c.in-NoMemory.ensures.looks c.args.code.now n c.args.args.now c.requires.head c.requires.key)
 
 -- ---- what was done
 
@@ -150,19 +150,19 @@ returns-in-Hit-clause-done g c = λ told n.
     let name = c.args.name.now in
     let a = asked memory name c.args.code.now n c.args.args.now in
     let old = g.F.Folder.view c.args.folder.now in
-    let mid = g.F.Folder.view c.look.new.folder in
+    let mid = g.F.Folder.view c.look_for.new.folder in
     let new = g.F.Folder.view c.found.new.folder in
     let ws = c.args.warnings.now.items in
-    let ws1 = c.look.new.warnings.items in
+    let ws1 = c.look_for.new.warnings.items in
     let ws2 = c.found.new.warnings.items in
-    let told' = c.look.ensures.frame.told told in
-    let first = goes_waits old mid c.look.ensures.frame.token (c.look.ensures.waits told) in
+    let told' = (c.look_for.ensures.frame c.args.args.now c.requires.key).told told in
+    let first = goes_waits old mid (c.look_for.ensures.frame c.args.args.now c.requires.key).token (c.look_for.ensures.waits told) in
     let second = (c.found.ensures.lawful told' g.L.Library.answer).went in
     let Part = λ (k u : List ℕ). PartDone OfKeeping (HasPut (entry_in memory name k) u Access (moved mid new)) ws1 ws2 in
-    found_done a old mid new first second c.found.result c.in-Hit.value ws ws1 ws2 c.found.ensures.found (c.in-Hit.ensures.looks n).0
+    found_done a old mid new first second c.found.result c.in-Hit.value ws ws1 ws2 c.found.ensures.found (c.in-Hit.ensures.looks c.args.code.now n c.args.args.now c.requires.head c.requires.key).0
     (λ is.
     subst (λ (k : List ℕ). Part k a.token) c.requires.key
-    (subst (λ (u : List ℕ). Part c.args.key.now.0 u) (c.look.ensures.frame.token ∙ c.requires.token) (c.found.ensures.done told' is)))
+    (subst (λ (u : List ℕ). Part c.args.wanted.now.key.0 u) ((c.look_for.ensures.frame c.args.args.now c.requires.key).token ∙ c.requires.token) (c.found.ensures.done told' is)))
 
 pub returns-in-Miss-clause-done : goal.returns-in-Miss-clause-done
 returns-in-Miss-clause-done g c = λ told n.
@@ -170,13 +170,13 @@ returns-in-Miss-clause-done g c = λ told n.
     let ps = c.args.args.now in
     let a = asked c.args.memory.now name c.args.code.now n ps in
     let old = g.F.Folder.view c.args.folder.now in
-    let mid = g.F.Folder.view c.look.new.folder in
+    let mid = g.F.Folder.view c.look_for.new.folder in
     let new = g.F.Folder.view c.missed.new.folder in
-    let told' = c.look.ensures.frame.told told in
-    let first = goes_waits old mid c.look.ensures.frame.token (c.look.ensures.waits told) in
+    let told' = (c.look_for.ensures.frame c.args.args.now c.requires.key).told told in
+    let first = goes_waits old mid (c.look_for.ensures.frame c.args.args.now c.requires.key).token (c.look_for.ensures.waits told) in
     let second = (c.missed.ensures.lawful told').went in
-    let looks = c.in-Miss.ensures.looks n in
-    missed_done a old mid new first second c.missed.result _ _ _ c.missed.ensures.missed c.args.warnings.now.items c.look.new.warnings.items c.missed.new.warnings.items (warnings_for looks.0 name ps) looks.1
+    let looks = c.in-Miss.ensures.looks c.args.code.now n c.args.args.now c.requires.head c.requires.key in
+    missed_done a old mid new first second c.missed.result _ _ _ c.missed.ensures.missed c.args.warnings.now.items c.look_for.new.warnings.items c.missed.new.warnings.items (warnings_for looks.0 name ps) looks.1
     (looked_done a old mid looks.0 looks.2 told)
     (c.missed.ensures.done told' n)
 
@@ -189,15 +189,15 @@ returns-in-Hit-clause-alone g c = λ told n lone ready rose.
     let a = asked memory name c.args.code.now n c.args.args.now in
     let host = g.H.Host.view c.args.host.now in
     let old = g.F.Folder.view c.args.folder.now in
-    let mid = g.F.Folder.view c.look.new.folder in
+    let mid = g.F.Folder.view c.look_for.new.folder in
     let new = g.F.Folder.view c.found.new.folder in
-    let frame = c.look.ensures.frame in
+    let frame = (c.look_for.ensures.frame c.args.args.now c.requires.key) in
     let v = c.in-Hit.value in
     let told' = frame.told told in
-    let waits = c.look.ensures.waits told in
+    let waits = c.look_for.ensures.waits told in
     let lones = lone_parts old mid new (goes_waits old mid frame.token waits) (c.found.ensures.lawful told' g.L.Library.answer).went lone in
     let same : state mid ≡ state old = waits_alone old mid waits lones.0 in
-    let stands = look_hit a c.args.warnings.now.items c.look.new.warnings.items old mid waits lones.0 ready.0 v (λ orderly. c.in-Hit.ensures.tidy told n orderly) in
+    let stands = look_hit a c.args.warnings.now.items c.look_for.new.warnings.items old mid waits lones.0 ready.0 v (λ orderly. c.in-Hit.ensures.tidy told c.args.code.now n c.args.args.now c.requires.head c.requires.key orderly) in
     let ready' = subst (λ (k : List ℕ). IsReadyToTouch (entry_in memory name k) (state mid)) (sym c.requires.key)
     (subst (λ (s : State). IsReadyToTouch (entry_asked a) s) (sym same) (ready.0, stands_in a (state old) v ready.0 stands)) in
     let Leaves = λ (k u : List ℕ) (s : State).
@@ -205,8 +205,8 @@ returns-in-Hit-clause-alone g c = λ told n lone ready rose.
     found_leaves a (state old) (state new) host c.found.result v c.found.ensures.found stands
     (λ is.
     subst (λ (k : List ℕ). Leaves k a.token (state old)) c.requires.key
-    (subst (λ (u : List ℕ). Leaves c.args.key.now.0 u (state old)) (frame.token ∙ c.requires.token)
-    (subst (λ (s : State). Leaves c.args.key.now.0 mid.token s) same
+    (subst (λ (u : List ℕ). Leaves c.args.wanted.now.key.0 u (state old)) (frame.token ∙ c.requires.token)
+    (subst (λ (s : State). Leaves c.args.wanted.now.key.0 mid.token s) same
     (c.found.ensures.alone told' lones.1 ready' (λ r. rose (later_rose old.faults mid.faults new.faults frame.faults.later r)) is))))
 
 pub returns-in-Miss-clause-alone : goal.returns-in-Miss-clause-alone
@@ -214,21 +214,21 @@ returns-in-Miss-clause-alone g c = λ told n lone ready rose.
     let a = asked c.args.memory.now c.args.name.now c.args.code.now n c.args.args.now in
     let host = g.H.Host.view c.args.host.now in
     let old = g.F.Folder.view c.args.folder.now in
-    let mid = g.F.Folder.view c.look.new.folder in
+    let mid = g.F.Folder.view c.look_for.new.folder in
     let new = g.F.Folder.view c.missed.new.folder in
-    let frame = c.look.ensures.frame in
+    let frame = (c.look_for.ensures.frame c.args.args.now c.requires.key) in
     let told' = frame.told told in
-    let waits = c.look.ensures.waits told in
+    let waits = c.look_for.ensures.waits told in
     let lones = lone_parts old mid new (goes_waits old mid frame.token waits) (c.missed.ensures.lawful told').went lone in
     let same : state mid ≡ state old = waits_alone old mid waits lones.0 in
-    let none = look_miss a c.args.warnings.now.items c.look.new.warnings.items old mid waits lones.0 ready.0 (λ orderly. c.in-Miss.ensures.tidy told n orderly) (λ r. rose (rose_later old.faults mid.faults new.faults r c.missed.ensures.frame.later)) in
+    let none = look_miss a c.args.warnings.now.items c.look_for.new.warnings.items old mid waits lones.0 ready.0 (λ orderly. c.in-Miss.ensures.tidy told c.args.code.now n c.args.args.now c.requires.head c.requires.key orderly) (λ r. rose (rose_later old.faults mid.faults new.faults r c.missed.ensures.frame.later)) in
     subst (λ (s : State). LeavesAnswer c.missed.result a s (state new) host) same
     (c.missed.ensures.alone told' n lones.1
     (subst (λ (s : State). IsReadyToKeep (entry_asked a) s) (sym same) ready) (λ r. rose (later_rose old.faults mid.faults new.faults frame.faults.later r)) (subst (λ (s : State). Stands (output_asked a) a.code a.args s → ⊥) (sym same) none))
 
 pub returns-in-NoMemory-clause-alone : goal.returns-in-NoMemory-clause-alone
 returns-in-NoMemory-clause-alone g c = λ told n lone ready rose.
-    memory_leaves (asked c.args.memory.now c.args.name.now c.args.code.now n c.args.args.now) (state (g.F.Folder.view c.args.folder.now)) (state (g.F.Folder.view c.look.new.folder)) (g.H.Host.view c.args.host.now)
+    memory_leaves (asked c.args.memory.now c.args.name.now c.args.code.now n c.args.args.now) (state (g.F.Folder.view c.args.folder.now)) (state (g.F.Folder.view c.look_for.new.folder)) (g.H.Host.view c.args.host.now)
 
 -- ---- where the answer comes from
 
@@ -236,22 +236,22 @@ pub returns-in-Hit-clause-looks : goal.returns-in-Hit-clause-looks
 returns-in-Hit-clause-looks g c = λ n.
     let a = asked c.args.memory.now c.args.name.now c.args.code.now n c.args.args.now in
     let old = g.F.Folder.view c.args.folder.now in
-    let mid = g.F.Folder.view c.look.new.folder in
+    let mid = g.F.Folder.view c.look_for.new.folder in
     let new = g.F.Folder.view c.found.new.folder in
-    let frame = c.look.ensures.frame in
-    let first = λ (t : old.told). goes_waits old mid frame.token (c.look.ensures.waits t) in
+    let frame = (c.look_for.ensures.frame c.args.args.now c.requires.key) in
+    let first = λ (t : old.told). goes_waits old mid frame.token (c.look_for.ensures.waits t) in
     let second = λ (t : mid.told). (c.found.ensures.lawful t g.L.Library.answer).went in
-    found_comes a old mid new (answers_keeps old mid frame) c.found.ensures.frame first second c.found.result c.in-Hit.value c.found.ensures.found (c.in-Hit.ensures.looks n).1
+    found_comes a old mid new (answers_keeps old mid frame) c.found.ensures.frame first second c.found.result c.in-Hit.value c.found.ensures.found (c.in-Hit.ensures.looks c.args.code.now n c.args.args.now c.requires.head c.requires.key).1
 
 pub returns-in-Miss-clause-looks : goal.returns-in-Miss-clause-looks
 returns-in-Miss-clause-looks g c = λ n.
     let a = asked c.args.memory.now c.args.name.now c.args.code.now n c.args.args.now in
     let old = g.F.Folder.view c.args.folder.now in
-    let mid = g.F.Folder.view c.look.new.folder in
+    let mid = g.F.Folder.view c.look_for.new.folder in
     let new = g.F.Folder.view c.missed.new.folder in
-    let frame = c.look.ensures.frame in
-    let looks = c.in-Miss.ensures.looks n in
-    let first = λ (t : old.told). goes_waits old mid frame.token (c.look.ensures.waits t) in
+    let frame = (c.look_for.ensures.frame c.args.args.now c.requires.key) in
+    let looks = c.in-Miss.ensures.looks c.args.code.now n c.args.args.now c.requires.head c.requires.key in
+    let first = λ (t : old.told). goes_waits old mid frame.token (c.look_for.ensures.waits t) in
     let second = λ (t : mid.told). (c.missed.ensures.lawful t).went in
     missed_comes a old mid new (answers_keeps old mid frame) c.missed.ensures.frame first second c.missed.result _ _ _ c.missed.ensures.missed looks.0 looks.2
 
@@ -259,62 +259,62 @@ pub returns-in-Hit-clause-tidy : goal.returns-in-Hit-clause-tidy
 returns-in-Hit-clause-tidy g c = λ t n orderly.
     let a = asked c.args.memory.now c.args.name.now c.args.code.now n c.args.args.now in
     let old = g.F.Folder.view c.args.folder.now in
-    let mid = g.F.Folder.view c.look.new.folder in
+    let mid = g.F.Folder.view c.look_for.new.folder in
     let new = g.F.Folder.view c.found.new.folder in
-    let frame = c.look.ensures.frame in
-    let first = λ (t : old.told). goes_waits old mid frame.token (c.look.ensures.waits t) in
+    let frame = (c.look_for.ensures.frame c.args.args.now c.requires.key) in
+    let first = λ (t : old.told). goes_waits old mid frame.token (c.look_for.ensures.waits t) in
     let second = λ (t : mid.told). (c.found.ensures.lawful t g.L.Library.answer).went in
     found_tidy a old mid new (answers_keeps old mid frame) c.found.ensures.frame first second t c.found.result c.in-Hit.value c.found.ensures.found
-    (c.in-Hit.ensures.tidy t n (orderly_sooner old mid new (first t) (second (frame.told t)) a.root orderly))
+    (c.in-Hit.ensures.tidy t c.args.code.now n c.args.args.now c.requires.head c.requires.key (orderly_sooner old mid new (first t) (second (frame.told t)) a.root orderly))
 
 pub returns-in-Miss-clause-tidy : goal.returns-in-Miss-clause-tidy
 returns-in-Miss-clause-tidy g c = λ t n orderly.
     let a = asked c.args.memory.now c.args.name.now c.args.code.now n c.args.args.now in
     let old = g.F.Folder.view c.args.folder.now in
-    let mid = g.F.Folder.view c.look.new.folder in
+    let mid = g.F.Folder.view c.look_for.new.folder in
     let new = g.F.Folder.view c.missed.new.folder in
-    let frame = c.look.ensures.frame in
-    let first = λ (t : old.told). goes_waits old mid frame.token (c.look.ensures.waits t) in
+    let frame = (c.look_for.ensures.frame c.args.args.now c.requires.key) in
+    let first = λ (t : old.told). goes_waits old mid frame.token (c.look_for.ensures.waits t) in
     let second = λ (t : mid.told). (c.missed.ensures.lawful t).went in
     missed_tidy a old mid new (answers_keeps old mid frame) c.missed.ensures.frame first second t c.missed.result _ _ _ c.missed.ensures.missed
-    (c.in-Miss.ensures.tidy t n (orderly_sooner old mid new (first t) (second (frame.told t)) a.root orderly)).0
+    (c.in-Miss.ensures.tidy t c.args.code.now n c.args.args.now c.requires.head c.requires.key (orderly_sooner old mid new (first t) (second (frame.told t)) a.root orderly)).0
 
 -- ---- what stays
 
 pub returns-in-Hit-clause-frame : goal.returns-in-Hit-clause-frame
 returns-in-Hit-clause-frame g c =
     let old = g.F.Folder.view c.args.folder.now in
-    let mid = g.F.Folder.view c.look.new.folder in
-    keeps_trans old mid (g.F.Folder.view c.found.new.folder) (answers_keeps old mid c.look.ensures.frame) c.found.ensures.frame
+    let mid = g.F.Folder.view c.look_for.new.folder in
+    keeps_trans old mid (g.F.Folder.view c.found.new.folder) (answers_keeps old mid (c.look_for.ensures.frame c.args.args.now c.requires.key)) c.found.ensures.frame
 
 pub returns-in-Miss-clause-frame : goal.returns-in-Miss-clause-frame
 returns-in-Miss-clause-frame g c =
     let old = g.F.Folder.view c.args.folder.now in
-    let mid = g.F.Folder.view c.look.new.folder in
-    keeps_trans old mid (g.F.Folder.view c.missed.new.folder) (answers_keeps old mid c.look.ensures.frame) c.missed.ensures.frame
+    let mid = g.F.Folder.view c.look_for.new.folder in
+    keeps_trans old mid (g.F.Folder.view c.missed.new.folder) (answers_keeps old mid (c.look_for.ensures.frame c.args.args.now c.requires.key)) c.missed.ensures.frame
 
 pub returns-in-NoMemory-clause-frame : goal.returns-in-NoMemory-clause-frame
-returns-in-NoMemory-clause-frame g c = answers_keeps (g.F.Folder.view c.args.folder.now) (g.F.Folder.view c.look.new.folder) c.look.ensures.frame
+returns-in-NoMemory-clause-frame g c = answers_keeps (g.F.Folder.view c.args.folder.now) (g.F.Folder.view c.look_for.new.folder) (c.look_for.ensures.frame c.args.args.now c.requires.key)
 
 -- ---- what is put in place
 
 pub returns-in-Hit-clause-puts : goal.returns-in-Hit-clause-puts
 returns-in-Hit-clause-puts g c = λ told n.
     let a = asked c.args.memory.now c.args.name.now c.args.code.now n c.args.args.now in
-    puts_later c.found.result a (g.H.Host.view c.args.host.now) (g.F.Folder.view c.args.folder.now) (g.F.Folder.view c.look.new.folder) (g.F.Folder.view c.found.new.folder) c.look.ensures.frame.token (c.look.ensures.waits told)
-    (c.found.ensures.puts (c.look.ensures.frame.told told) c.args.code.now n c.args.args.now c.requires.key)
+    puts_later c.found.result a (g.H.Host.view c.args.host.now) (g.F.Folder.view c.args.folder.now) (g.F.Folder.view c.look_for.new.folder) (g.F.Folder.view c.found.new.folder) (c.look_for.ensures.frame c.args.args.now c.requires.key).token (c.look_for.ensures.waits told)
+    (c.found.ensures.puts ((c.look_for.ensures.frame c.args.args.now c.requires.key).told told) c.args.code.now n c.args.args.now c.requires.key)
 
 pub returns-in-Miss-clause-puts : goal.returns-in-Miss-clause-puts
 returns-in-Miss-clause-puts g c = λ told n.
     let a = asked c.args.memory.now c.args.name.now c.args.code.now n c.args.args.now in
-    puts_later c.missed.result a (g.H.Host.view c.args.host.now) (g.F.Folder.view c.args.folder.now) (g.F.Folder.view c.look.new.folder) (g.F.Folder.view c.missed.new.folder) c.look.ensures.frame.token (c.look.ensures.waits told)
-    (c.missed.ensures.puts (c.look.ensures.frame.told told) n)
+    puts_later c.missed.result a (g.H.Host.view c.args.host.now) (g.F.Folder.view c.args.folder.now) (g.F.Folder.view c.look_for.new.folder) (g.F.Folder.view c.missed.new.folder) (c.look_for.ensures.frame c.args.args.now c.requires.key).token (c.look_for.ensures.waits told)
+    (c.missed.ensures.puts ((c.look_for.ensures.frame c.args.args.now c.requires.key).told told) n)
 
 pub returns-in-NoMemory-clause-puts : goal.returns-in-NoMemory-clause-puts
 returns-in-NoMemory-clause-puts g c = λ told n.
     let a = asked c.args.memory.now c.args.name.now c.args.code.now n c.args.args.now in
     let old = g.F.Folder.view c.args.folder.now in
-    puts_waits NoMemory a (g.H.Host.view c.args.host.now) (PutsEntry (entry_asked a)) (IsAnswering NoMemory (entry_asked a) old.token) old (g.F.Folder.view c.look.new.folder) c.look.ensures.frame.token (c.look.ensures.waits told) tt (λ tells. tt)
+    puts_waits NoMemory a (g.H.Host.view c.args.host.now) (PutsEntry (entry_asked a)) (IsAnswering NoMemory (entry_asked a) old.token) old (g.F.Folder.view c.look_for.new.folder) (c.look_for.ensures.frame c.args.args.now c.requires.key).token (c.look_for.ensures.waits told) tt (λ tells. tt)
 
 pub returns-in-Hit-clause-order : goal.returns-in-Hit-clause-order
 returns-in-Hit-clause-order g c = λ told.
@@ -327,10 +327,10 @@ returns-in-Miss-clause-order g c = λ told.
     let e = entry_in c.args.memory.now c.args.name.now (key_of c.args.args.now) in
     let r = c.missed.result in
     let old = g.F.Folder.view c.args.folder.now in
-    let mid = g.F.Folder.view c.look.new.folder in
+    let mid = g.F.Folder.view c.look_for.new.folder in
     let new = g.F.Folder.view c.missed.new.folder in
-    let told' = c.look.ensures.frame.told told in
-    ordered_later (IsMakingEntry e) (IsMakingEntry e) Silent e (λ m none. absurd none) (λ m kind. kind) old mid new (waits_silent old mid c.look.ensures.frame.token (c.look.ensures.waits told)) (c.missed.ensures.lawful told').went r
+    let told' = (c.look_for.ensures.frame c.args.args.now c.requires.key).told told in
+    ordered_later (IsMakingEntry e) (IsMakingEntry e) Silent e (λ m none. absurd none) (λ m kind. kind) old mid new (waits_silent old mid (c.look_for.ensures.frame c.args.args.now c.requires.key).token (c.look_for.ensures.waits told)) (c.missed.ensures.lawful told').went r
     (all_ordered (IsMakingEntry e) e mid.token (moved mid new) r (c.missed.ensures.order told'))
 
 -- ---- its parts
@@ -342,18 +342,18 @@ returns-in-Hit-clause-did g c = λ told n.
     let ps = c.args.args.now in
     let a = asked c.args.memory.now name code n ps in
     let old = g.F.Folder.view c.args.folder.now in
-    let mid = g.F.Folder.view c.look.new.folder in
+    let mid = g.F.Folder.view c.look_for.new.folder in
     let new = g.F.Folder.view c.found.new.folder in
     let calls = g.L.Library.calls c.args.lib.now in
-    let frame = c.look.ensures.frame in
+    let frame = (c.look_for.ensures.frame c.args.args.now c.requires.key) in
     hit_did g.L.Library.answer a old mid new (g.H.Host.view c.args.host.now) (g.H.Host.view c.found.new.host) calls calls
-    c.args.warnings.now.items c.look.new.warnings.items c.found.new.warnings.items frame.told c.found.result c.in-Hit.value c.found.ensures.found
+    c.args.warnings.now.items c.look_for.new.warnings.items c.found.new.warnings.items frame.told c.found.result c.in-Hit.value c.found.ensures.found
     (record {
       answers = frame;
-      waits = c.look.ensures.waits told;
-      looks = c.in-Hit.ensures.looks n;
-      tidy = λ orderly. c.in-Hit.ensures.tidy told n orderly;
-      sound = λ answer trust. c.in-Hit.ensures.sound answer trust;
+      waits = c.look_for.ensures.waits told;
+      looks = c.in-Hit.ensures.looks c.args.code.now n c.args.args.now c.requires.head c.requires.key;
+      tidy = λ orderly. c.in-Hit.ensures.tidy told c.args.code.now n c.args.args.now c.requires.head c.requires.key orderly;
+      sound = λ answer trust. c.in-Hit.ensures.sound c.args.code.now c.args.args.now c.requires.head c.requires.key answer trust;
       calls = refl;
       clock = refl;
     })
@@ -363,17 +363,17 @@ pub returns-in-Miss-clause-did : goal.returns-in-Miss-clause-did
 returns-in-Miss-clause-did g c = λ told n.
     let a = asked c.args.memory.now c.args.name.now c.args.code.now n c.args.args.now in
     let old = g.F.Folder.view c.args.folder.now in
-    let mid = g.F.Folder.view c.look.new.folder in
+    let mid = g.F.Folder.view c.look_for.new.folder in
     let new = g.F.Folder.view c.missed.new.folder in
-    let frame = c.look.ensures.frame in
+    let frame = (c.look_for.ensures.frame c.args.args.now c.requires.key) in
     miss_did g.L.Library.answer a old mid new (g.H.Host.view c.args.host.now) (g.H.Host.view c.missed.new.host) (g.L.Library.calls c.args.lib.now) (g.L.Library.calls c.missed.new.lib)
-    c.args.warnings.now.items c.look.new.warnings.items c.missed.new.warnings.items frame.told c.missed.result _ _ _ c.missed.ensures.missed
+    c.args.warnings.now.items c.look_for.new.warnings.items c.missed.new.warnings.items frame.told c.missed.result _ _ _ c.missed.ensures.missed
     (record {
       answers = frame;
-      waits = c.look.ensures.waits told;
-      looks = c.in-Miss.ensures.looks n;
-      tidy = λ orderly. c.in-Miss.ensures.tidy told n orderly;
-      sound = λ answer trust. c.in-Miss.ensures.sound answer trust;
+      waits = c.look_for.ensures.waits told;
+      looks = c.in-Miss.ensures.looks c.args.code.now n c.args.args.now c.requires.head c.requires.key;
+      tidy = λ orderly. c.in-Miss.ensures.tidy told c.args.code.now n c.args.args.now c.requires.head c.requires.key orderly;
+      sound = λ answer trust. c.in-Miss.ensures.sound c.args.code.now c.args.args.now c.requires.head c.requires.key answer trust;
       calls = refl;
       clock = refl;
     })

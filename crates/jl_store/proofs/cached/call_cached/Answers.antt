@@ -46,6 +46,7 @@ use Rattle.jl_store.proofs.LoneMoves.{lone_untouched}
 use Rattle.jl_store.proofs.LoneCalls.{LeavesAnswer, lone_orderly, tidy_after, after_check, leaves_next, lone_warns, nothing_next}
 use Rattle.jl_store.proofs.Orders.{ordered_later}
 use Rattle.jl_store.proofs.TaskLemmas.{whole_did}
+use Rattle.jl_store.proofs.Tasks.{puts_in_turn}
 use Rattle.jl_store.proofs.Putting.{puts_none, checked_puts, whole_puts}
 use Rattle.jl_store.proofs.cached.call_cached.Goals as goal
 
@@ -68,8 +69,8 @@ answered r e answer token old new same lawful =
 pub returns-in_default-clause-lawful : goal.returns-in_default-clause-lawful
 returns-in_default-clause-lawful g c = λ told. lawful_none _ _ _ (g.F.Folder.view c.args.folder.now)
 
-pub returns-in_default-digest-clause-lawful : goal.returns-in_default-digest-clause-lawful
-returns-in_default-digest-clause-lawful g c = λ told. lawful_none _ _ _ (g.F.Folder.view c.args.folder.now)
+pub returns-in_default-wanted-clause-lawful : goal.returns-in_default-wanted-clause-lawful
+returns-in_default-wanted-clause-lawful g c = λ told. lawful_none _ _ _ (g.F.Folder.view c.args.folder.now)
 
 pub returns-clause-lawful : goal.returns-clause-lawful
 returns-clause-lawful g c = λ told.
@@ -99,8 +100,8 @@ returns-in_default-clause-clears g c = λ code is told.
     let v = g.F.Folder.view c.args.folder.now in
     inl (moves_none (IsWritingCall NoMemory (entry_in memory c.args.name.now (key_of c.args.args.now)) v.token) v).own
 
-pub returns-in_default-digest-clause-clears : goal.returns-in_default-digest-clause-clears
-returns-in_default-digest-clause-clears g c = λ code is told.
+pub returns-in_default-wanted-clause-clears : goal.returns-in_default-wanted-clause-clears
+returns-in_default-wanted-clause-clears g c = λ code is told.
     let memory = c.args.memory.now in
     let v = g.F.Folder.view c.args.folder.now in
     inl (moves_none (IsWritingCall NoMemory (entry_in memory c.args.name.now (key_of c.args.args.now)) v.token) v).own
@@ -173,8 +174,8 @@ returns-in_default-clause-warns g c = λ code n is line.
     let v = g.F.Folder.view c.args.folder.now in
     no_warnings (asked c.args.memory.now c.args.name.now code n c.args.args.now) c.args.warnings.now.items c.args.warnings.now.items v v refl
 
-pub returns-in_default-digest-clause-warns : goal.returns-in_default-digest-clause-warns
-returns-in_default-digest-clause-warns g c = λ code n is line.
+pub returns-in_default-wanted-clause-warns : goal.returns-in_default-wanted-clause-warns
+returns-in_default-wanted-clause-warns g c = λ code n is line.
     let v = g.F.Folder.view c.args.folder.now in
     no_warnings (asked c.args.memory.now c.args.name.now code n c.args.args.now) c.args.warnings.now.items c.args.warnings.now.items v v refl
 
@@ -205,9 +206,9 @@ returns-in-Ok-warn_of_check-clause-warns g c = λ code n is line.
     (warns_then a old mid new c.requires.token (answers_keeps old mid frame) c.answered.ensures.frame first second Anywhere (HasFunction a) ws ws1 ws2
     (λ t orderly ready.
     checked_home a old mid (first t) c.requires.token check text orderly (c.check_code-check.ensures.checks t) (λ skipped. c.check_code-check.ensures.skipped t skipped orderly) frame.faults.failed c.in-Ok-warn_of_check.ensures.memory) (
-      check_warns check name c.in-Ok-digest.key,
+      check_warns check name c.in-Ok-wanted.want.key,
       c.in-Ok-warn_of_check.ensures.ok,
-      check_warned a Anywhere old mid check c.in-Ok-digest.key c.in-Ok-digest.ensures.key
+      check_warned a Anywhere old mid check c.in-Ok-wanted.want.key c.in-Ok-wanted.ensures.key
           (λ skipped t orderly ready.
           touched_as memory.token (UsesCode (function_path root memory.module name) (code_path root memory.module name) (code_temp root memory.module name memory.token)) (UsesCall a) (code_uses a) (moved old mid)
           (c.check_code-check.ensures.skipped t skipped orderly))
@@ -222,8 +223,8 @@ returns-in_default-clause-alone g c = λ told code n is line lone tidy rose.
     let s = state (g.F.Folder.view c.args.folder.now) in
     nothing_next (asked c.args.memory.now c.args.name.now code n c.args.args.now) s s (g.H.Host.view c.args.host.now)
 
-pub returns-in_default-digest-clause-alone : goal.returns-in_default-digest-clause-alone
-returns-in_default-digest-clause-alone g c = λ told code n is line lone tidy rose.
+pub returns-in_default-wanted-clause-alone : goal.returns-in_default-wanted-clause-alone
+returns-in_default-wanted-clause-alone g c = λ told code n is line lone tidy rose.
     let s = state (g.F.Folder.view c.args.folder.now) in
     nothing_next (asked c.args.memory.now c.args.name.now code n c.args.args.now) s s (g.H.Host.view c.args.host.now)
 
@@ -326,8 +327,8 @@ returns-in_default-clause-quiet g c = λ told lone sound rose.
     lone_warns (asked c.args.memory.now name code.0 n c.args.args.now) lib.answer _ v v c.args.warnings.now.items c.args.warnings.now.items
     c.requires.token told (returns-in_default-clause-warns g c code.0 n code.1 refl) (returns-in_default-clause-lawful g c told) lone sound rose
 
-pub returns-in_default-digest-clause-quiet : goal.returns-in_default-digest-clause-quiet
-returns-in_default-digest-clause-quiet g c = λ told lone sound rose.
+pub returns-in_default-wanted-clause-quiet : goal.returns-in_default-wanted-clause-quiet
+returns-in_default-wanted-clause-quiet g c = λ told lone sound rose.
     let lib = g.L.Library in
     let m = lib.loaded c.args.lib.now in
     let name = c.args.name.now in
@@ -335,7 +336,7 @@ returns-in_default-digest-clause-quiet g c = λ told lone sound rose.
     let code = some_of (lib.code m name) c.requires.defined in
     let n = lib.line m name in
     lone_warns (asked c.args.memory.now name code.0 n c.args.args.now) lib.answer _ v v c.args.warnings.now.items c.args.warnings.now.items
-    c.requires.token told (returns-in_default-digest-clause-warns g c code.0 n code.1 refl) (returns-in_default-digest-clause-lawful g c told) lone sound rose
+    c.requires.token told (returns-in_default-wanted-clause-warns g c code.0 n code.1 refl) (returns-in_default-wanted-clause-lawful g c told) lone sound rose
 
 pub returns-clause-quiet : goal.returns-clause-quiet
 returns-clause-quiet g c = λ told lone sound rose.
@@ -362,8 +363,8 @@ returns-in-Ok-warn_of_check-clause-quiet g c = λ told lone sound rose.
 pub returns-in_default-clause-done : goal.returns-in_default-clause-done
 returns-in_default-clause-done g c = λ code n is line told. ([], sym (append-nil c.args.warnings.now.items), tt)
 
-pub returns-in_default-digest-clause-done : goal.returns-in_default-digest-clause-done
-returns-in_default-digest-clause-done g c = λ code n is line told. ([], sym (append-nil c.args.warnings.now.items), tt)
+pub returns-in_default-wanted-clause-done : goal.returns-in_default-wanted-clause-done
+returns-in_default-wanted-clause-done g c = λ code n is line told. ([], sym (append-nil c.args.warnings.now.items), tt)
 
 pub returns-clause-done : goal.returns-clause-done
 returns-clause-done g c = λ code n is line told. ([], c.in-Err.ensures.err ∙ sym (append-nil c.args.warnings.now.items), tt)
@@ -387,7 +388,7 @@ returns-in-Ok-warn_of_check-clause-done g c = λ code n is line told.
     let ws2 = c.answered.new.warnings.items in
     let r = c.answered.result in
     let check = c.check_code-check.result in
-    let key = c.in-Ok-digest.key in
+    let key = c.in-Ok-wanted.want.key in
     let text = c.as_str-text.result.now in
     let told' = c.check_code-check.ensures.frame.told told in
     let same : text ≡ code = c.as_str-text.ensures ∙ one_value (lib.code (lib.loaded c.args.lib.now) name) c.in-Ok.code.text code c.in-Ok.ensures.code is in
@@ -402,8 +403,8 @@ returns-in-Ok-warn_of_check-clause-done g c = λ code n is line told.
 pub returns-in_default-clause-frame : goal.returns-in_default-clause-frame
 returns-in_default-clause-frame g c = keeps_none (g.F.Folder.view c.args.folder.now)
 
-pub returns-in_default-digest-clause-frame : goal.returns-in_default-digest-clause-frame
-returns-in_default-digest-clause-frame g c = keeps_none (g.F.Folder.view c.args.folder.now)
+pub returns-in_default-wanted-clause-frame : goal.returns-in_default-wanted-clause-frame
+returns-in_default-wanted-clause-frame g c = keeps_none (g.F.Folder.view c.args.folder.now)
 
 pub returns-clause-frame : goal.returns-clause-frame
 returns-clause-frame g c = answers_keeps (g.F.Folder.view c.args.folder.now) (g.F.Folder.view c.check_code-check.new.folder) c.check_code-check.ensures.frame
@@ -429,8 +430,8 @@ returns-in_default-clause-puts g c = λ code n is line told.
     let v = g.F.Folder.view c.args.folder.now in
     puts_none NoMemory a (g.H.Host.view c.args.host.now) (PutsCall a) (IsCalling NoMemory (entry_asked a) v.token) v tt (λ tells. tt)
 
-pub returns-in_default-digest-clause-puts : goal.returns-in_default-digest-clause-puts
-returns-in_default-digest-clause-puts g c = λ code n is line told.
+pub returns-in_default-wanted-clause-puts : goal.returns-in_default-wanted-clause-puts
+returns-in_default-wanted-clause-puts g c = λ code n is line told.
     let a = asked c.args.memory.now c.args.name.now code n c.args.args.now in
     let v = g.F.Folder.view c.args.folder.now in
     puts_none NoMemory a (g.H.Host.view c.args.host.now) (PutsCall a) (IsCalling NoMemory (entry_asked a) v.token) v tt (λ tells. tt)
@@ -493,10 +494,10 @@ returns-in_default-clause-did g c = λ code n is line told.
     let v = g.F.Folder.view c.args.folder.now in
     ended _ (asked c.args.memory.now c.args.name.now code n c.args.args.now) v v (g.H.Host.view c.args.host.now) _ _ _ (returns-in_default-clause-lawful g c told) (returns-in_default-clause-frame g c)
 
-pub returns-in_default-digest-clause-did : goal.returns-in_default-digest-clause-did
-returns-in_default-digest-clause-did g c = λ code n is line told.
+pub returns-in_default-wanted-clause-did : goal.returns-in_default-wanted-clause-did
+returns-in_default-wanted-clause-did g c = λ code n is line told.
     let v = g.F.Folder.view c.args.folder.now in
-    ended _ (asked c.args.memory.now c.args.name.now code n c.args.args.now) v v (g.H.Host.view c.args.host.now) _ _ _ (returns-in_default-digest-clause-lawful g c told) (returns-in_default-digest-clause-frame g c)
+    ended _ (asked c.args.memory.now c.args.name.now code n c.args.args.now) v v (g.H.Host.view c.args.host.now) _ _ _ (returns-in_default-wanted-clause-lawful g c told) (returns-in_default-wanted-clause-frame g c)
 
 pub returns-clause-did : goal.returns-clause-did
 returns-clause-did g c = λ code n is line told.
@@ -545,10 +546,30 @@ returns-in-Ok-warn_of_check-clause-did g c = λ code n is line told.
             alone = λ lone tidy rose.
             subst (λ (k : List ℕ). ChecksAlone check home last temp k (code_text k n) (state old) (state mid)) same
             (subst (λ (k : ℕ). ChecksAlone check home last temp text (code_text text k) (state old) (state mid)) one (mine.alone told lone tidy rose));
-            warns = subst (λ (k : List ℕ). ws1 ≡ ws ++ check_warns check name (record { 0 = k })) c.in-Ok-digest.ensures.key c.in-Ok-warn_of_check.ensures.ok;
+            warns = subst (λ (k : List ℕ). ws1 ≡ ws ++ check_warns check name (record { 0 = k })) c.in-Ok-wanted.ensures.key c.in-Ok-warn_of_check.ensures.ok;
             calls = refl;
             clock = refl;
           })
           (subst (λ (k : List ℕ). IfAnswered r (AnswerDid lib.answer (asked memory name k n ps) r (point mid host calls ws1) (point new host' calls' ws2))) same
           (c.answered.ensures.did (mine.frame.told told) n));
     }
+
+-- ---- each file at most once
+
+pub returns-in_default-clause-once : goal.returns-in_default-clause-once
+returns-in_default-clause-once g c = λ code n is line told. tt
+
+pub returns-in_default-wanted-clause-once : goal.returns-in_default-wanted-clause-once
+returns-in_default-wanted-clause-once g c = λ code n is line told. tt
+
+pub returns-clause-once : goal.returns-clause-once
+returns-clause-once g c = λ code n is line told. tt
+
+pub returns-in-Ok-warn_of_check-clause-once : goal.returns-in-Ok-warn_of_check-clause-once
+returns-in-Ok-warn_of_check-clause-once g c = λ code n is line told.
+    let lib = g.L.Library in
+    let a = asked c.args.memory.now c.args.name.now code n c.args.args.now in
+    puts_in_turn lib.answer a
+    (point (g.F.Folder.view c.args.folder.now) (g.H.Host.view c.args.host.now) (lib.calls c.args.lib.now) c.args.warnings.now.items)
+    (point (g.F.Folder.view c.answered.new.folder) (g.H.Host.view c.answered.new.host) (lib.calls c.answered.new.lib) c.answered.new.warnings.items)
+    c.answered.result (returns-in-Ok-warn_of_check-clause-did g c code n is line told).parts
