@@ -59,12 +59,13 @@ emptying_no_rename entry (RemoveDir p) is = tt
 pub clearing_no_rename : (function : PathView) (m : Move) → IsClearing function m → IsNoRename m
 clearing_no_rename function m is = emptying_no_rename _ m is.2
 
+-- a folder that is made is no rename
+made_no_rename : (p : PathView) → IsNoRename (MakeDir p)
+unfolding IsNoRename
+made_no_rename p = tt
+
 pub make_dir_no_rename : (path : PathView) (m : Move) → m ≡ MakeDir path → IsNoRename m
-make_dir_no_rename path m is = subst IsNoRename (sym is) (made path)
-  where
-    made : (p : PathView) → IsNoRename (MakeDir p)
-    unfolding IsNoRename
-    made p = tt
+make_dir_no_rename path m is = subst IsNoRename (sym is) (made_no_rename path)
 
 -- ---- one list of names after another
 
@@ -118,15 +119,16 @@ turns_then lasts lasts' old mid new first second one two =
     subst (PutsInTurn (lasts ++ lasts') old.token) (sym (moved_then old mid new first second))
     (turn_then old.token lasts lasts' (moved old mid) (moved mid new) one (subst (λ (u : List ℕ). PutsInTurn lasts' u (moved mid new)) first.token two))
 
+-- no moves are none of a rename
+none_at_all : (token : List ℕ) → OwnMoves token IsNoRename []
+unfolding OwnMoves
+none_at_all token = tt
+
 -- a part that ended before the other names
 pub turns_more : (lasts lasts' : List PathView) (old new : FolderView) → PutsInTurn lasts old.token (moved old new) → PutsInTurn (lasts ++ lasts') old.token (moved old new)
 turns_more lasts lasts' old new puts =
     subst (PutsInTurn (lasts ++ lasts') old.token) (append-nil (moved old new))
     (turn_then old.token lasts lasts' (moved old new) [] puts (turn_none old.token lasts' [] (none_at_all old.token)))
-  where
-    none_at_all : (token : List ℕ) → OwnMoves token IsNoRename []
-    unfolding OwnMoves
-    none_at_all token = tt
 
 -- ---- the rename
 
@@ -134,20 +136,16 @@ module _ (last temp : PathView) (old new : FolderView) where
   abbrev Once : Trace → Type 0
   Once steps = PutsInTurn (last ∷ []) old.token steps
 
-  none_own : OwnMoves old.token IsNoRename []
-  unfolding OwnMoves
-  none_own = tt
-
   still : (others : Trace) → OwnMoves old.token IsNoRename others → (own : Option Move) → own ≡ None → Once (others ++ own_event old.token own)
   still others foreign own none =
       subst (λ (o : Option Move). Once (others ++ own_event old.token o)) (sym none)
-      (turn_none old.token (last ∷ []) (others ++ []) (OwnMoves-append old.token IsNoRename others [] foreign none_own))
+      (turn_none old.token (last ∷ []) (others ++ []) (OwnMoves-append old.token IsNoRename others [] foreign (none_at_all old.token)))
 
   puts : (others : Trace) → OwnMoves old.token IsNoRename others → (own : Option Move) → own ≡ Some (Rename temp last) → Once (others ++ own_event old.token own)
   unfolding PutsInTurn
   puts others foreign own just =
       subst (λ (o : Option Move). Once (others ++ own_event old.token o)) (sym just)
-      (inr (record { before = others; temp = temp; later = []; parts = refl; none_before = foreign; puts_later = none_own }))
+      (inr (record { before = others; temp = temp; later = []; parts = refl; none_before = foreign; puts_later = (none_at_all old.token) }))
 
   -- one call that renames
   pub rename_once : (r : Renamed) → Call old new (RenamesFile temp last r) → Once (moved old new)

@@ -41,7 +41,7 @@ use crate::checking::check_code;
 use crate::checks::CodeCheck;
 use crate::found::Look;
 use crate::keeping::{keep_as, touch};
-use crate::looking::{Wanted, look_for, wanted, warn};
+use crate::looking::{Sought, look_for, wanted, warn};
 use crate::memory::{Memory, WarnKind, Warning};
 use jl_folder::{Folder, Text};
 use jl_streams::Host;
@@ -348,7 +348,7 @@ fn answered<L: Library, F: Folder, H: Host>(
     name: &str,
     code: &str,
     args: &Args,
-    wanted: &Wanted,
+    wanted: &Sought,
     warnings: &mut Vec<Warning>,
 ) -> Cached
     requires token { (F.view folder.old).token ≡ memory.now.token }
@@ -412,7 +412,9 @@ fn answered<L: Library, F: Folder, H: Host>(
     let key = &wanted.key;
     match look_for(alloc, memory, folder, name, wanted, warnings) {
         Look::Hit(value) => found(alloc, memory, folder, host, name, key, value, warnings),
-        Look::Miss => missed(alloc, memory, lib, folder, host, name, key, code, args, warnings),
+        Look::Miss => missed(
+            alloc, memory, lib, folder, host, name, key, code, args, warnings,
+        ),
         Look::NoMemory => Cached::NoMemory,
     }
 }

@@ -1,5 +1,5 @@
 // Looking for an answer in the cache.
-ghost use Rattle.std.specs.Prelude.{◌≡◌, ◌<◌, ◌++◌, ◌∷◌, [], ℕ, List, IsTrue, IfOk, OnOk, OnErr, vec_len, vec_capacity};
+ghost use Rattle.std.specs.Prelude.{◌≡◌, ◌≢◌, ◌<◌, ◌++◌, ◌∷◌, [], ℕ, List, IsTrue, IfOk, OnOk, OnErr, vec_len, vec_capacity};
 ghost use Rattle.jl_text.specs.Texts.{is_name};
 ghost use Rattle.jl_folder.specs.Views.{FolderAnswers, state, moved};
 ghost use Rattle.jl_folder.specs.Calls.{Waits};
@@ -23,8 +23,9 @@ use std::alloc::{AllocError, Global};
 
 // What the bytes of an output are to the code and the arguments whose entries begin with this head.
 fn judge(alloc: Global, head: &str, bytes: &[u8]) -> Found
-    ensures { (code : List ℕ) (ps : Members) → IsHeadOf head.now code ps
+    ensures judged { (code : List ℕ) (ps : Members) → IsHeadOf head.now code ps
         → IsJudged result bytes.now code ps }
+    ensures known { result ≢ Found.Fault }
 {
     if bytes.len() > MOST_ENTRY_BYTES {
         return Found::Damaged;
@@ -110,20 +111,20 @@ fn settle(found: Found, name: Text, key: Key, warnings: &mut Vec<Warning>) -> Lo
 
 // What the entry of a code and of arguments is found by.
 #[derive(Drop)]
-pub(crate) struct Wanted {
+pub(crate) struct Sought {
     pub(crate) key: Key,
     pub(crate) head: Text,
 }
 
 // Writes the arguments once, for the key and for what the entry begins with.
-pub(crate) fn wanted(alloc: Global, code: &str, args: &Args) -> Result<Wanted, AllocError>
+pub(crate) fn wanted(alloc: Global, code: &str, args: &Args) -> Result<Sought, AllocError>
     ensures key { IfOk result (λ w. w.key.0 ≡ key_of args.now) }
     ensures head { IfOk result (λ w. IsHeadOf w.head code.now args.now) }
 {
     let text = canonical_table(alloc, args.value())?;
     let head = entry_head(alloc, code, text.as_str())?;
     let key = Key::of_text(text.as_str());
-    Ok(Wanted { key, head })
+    Ok(Sought { key, head })
 }
 
 // Looks for the answer by its key and by what its entry begins with.
@@ -132,7 +133,7 @@ pub(crate) fn look_for<F: Folder>(
     memory: &Memory,
     folder: &mut F,
     name: &str,
-    wanted: &Wanted,
+    wanted: &Sought,
     warnings: &mut Vec<Warning>,
 ) -> Look
     requires module_name { IsTrue (is_name memory.now.«module») }

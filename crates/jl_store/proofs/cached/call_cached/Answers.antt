@@ -544,8 +544,8 @@ returns-in-Ok-warn_of_check-clause-did g c = λ code n is line told.
             checks = subst (λ (k : List ℕ). Checks check home last temp k old mid) same (mine.checks told);
             skipped = λ skipped orderly. mine.skipped told skipped orderly;
             alone = λ lone tidy rose.
-            subst (λ (k : List ℕ). ChecksAlone check home last temp k (code_text k n) (state old) (state mid)) same
-            (subst (λ (k : ℕ). ChecksAlone check home last temp text (code_text text k) (state old) (state mid)) one (mine.alone told lone tidy rose));
+                subst (λ (k : List ℕ). ChecksAlone check home last temp k (code_text k n) (state old) (state mid)) same
+                (subst (λ (k : ℕ). ChecksAlone check home last temp text (code_text text k) (state old) (state mid)) one (mine.alone told lone tidy rose));
             warns = subst (λ (k : List ℕ). ws1 ≡ ws ++ check_warns check name (record { 0 = k })) c.in-Ok-wanted.ensures.key c.in-Ok-warn_of_check.ensures.ok;
             calls = refl;
             clock = refl;

@@ -136,7 +136,7 @@ returns-in-Ok-clause-did g c = λ told is code n ps calls same.
         remembers = c.in-Ok.ensures.memory;
         call = subst (λ (k : List ℕ). KeepsFile (entry_in memory name k) Access (access_text moment) (IsReadyToTouch (entry_in memory name k)) kept old new) same (c.touch-kept.ensures.called told);
         alone = λ done lone.
-        subst (λ (k : List ℕ). IsPublished (last_of (entry_in memory name k) Access) (temp_of (entry_in memory name k) old.token Access) (access_text moment) (state old) (state new)) same (c.touch-kept.ensures.alone told done lone);
+            subst (λ (k : List ℕ). IsPublished (last_of (entry_in memory name k) Access) (temp_of (entry_in memory name k) old.token Access) (access_text moment) (state old) (state new)) same (c.touch-kept.ensures.alone told done lone);
         warns = subst (λ (k : List ℕ). c.warn_of.new.warnings.items ≡ c.args.warnings.now.items ++ keep_warns kept name (record { 0 = k })) same c.in-Ok.ensures.ok;
       };
       calls = refl;

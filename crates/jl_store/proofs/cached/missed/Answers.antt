@@ -160,9 +160,9 @@ returns-in-Done-Value-clause-did g c = λ told n.
       calls = c.in-Done-Value.ensures.calls;
       ended = λ tells. c.now-after.ensures.moment (c.now-before.ensures.frame.told tells) ∙ ap moment_of (c.now-before.ensures.moments tells);
       took = λ tells.
-      let first : c.now-before.result ≡ moment_of host.moments = c.now-before.ensures.moment tells in
-      let second : c.now-after.result ≡ moment_of (moments_after host.moments) = c.now-after.ensures.moment (c.now-before.ensures.frame.told tells) ∙ ap moment_of (c.now-before.ensures.moments tells) in
-      c.saturating_sub.ensures ∙ (λ i. second i - first i);
+          let first : c.now-before.result ≡ moment_of host.moments = c.now-before.ensures.moment tells in
+          let second : c.now-after.result ≡ moment_of (moments_after host.moments) = c.now-after.ensures.moment (c.now-before.ensures.frame.told tells) ∙ ap moment_of (c.now-before.ensures.moments tells) in
+          c.saturating_sub.ensures ∙ (λ i. second i - first i);
       clock = λ tells. c.now-after.ensures.moments (c.now-before.ensures.frame.told tells) ∙ ap moments_after (c.now-before.ensures.moments tells);
     })
 
