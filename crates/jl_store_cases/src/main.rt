@@ -1,7 +1,6 @@
-//! Runs a script of cases over the folder in memory, the cached call's parts and clearing, and prints what comes.
+//! Runs a script of cases over the folder in memory and the cached call's parts, and prints what comes.
 #![tactic(auto)]
 
-mod clearing;
 mod store;
 mod trees;
 
@@ -26,7 +25,6 @@ impl Cases for Layers {
             "folder" => self.stage.row(alloc, case, given),
             "trees" => trees::row(alloc, case, given),
             "store" => store::row(alloc, &mut self.stage, case, given),
-            "clear" => clearing::row(alloc, &mut self.stage, case, given),
             _ => Err(RowFault::Bad),
         }
     }

@@ -1,11 +1,10 @@
-//! Runs a script of cases over the streams and the host in memory, lines, and the tracker, and prints what comes.
+//! Runs a script of cases over the streams and the host in memory, and lines, and prints what comes.
 #![tactic(auto)]
 
 mod lines;
 mod streams;
-mod tracker;
 
-use jl_fixture::{Names, Stage, print_row};
+use jl_fixture::{Names, print_row};
 use jl_script::Cases;
 use jl_script::given::RowFault;
 use jl_script::told::Told;
@@ -14,19 +13,15 @@ use std::alloc::Global;
 use std::io;
 use std::io::{BufRead, BufReader};
 
-/// The folder of the tracker's rows.
+/// The cases of these layers, each in its file.
 #[derive(Drop)]
-struct Layers {
-    stage: Stage,
-}
+struct Layers;
 
 impl Cases for Layers {
     fn tell(&mut self, alloc: Global, layer: &str, case: &str, given: &[Value]) -> Told {
         match layer {
             "streams" => streams::row(alloc, case, given),
             "lines" => lines::row(alloc, case, given),
-            "folder" => self.stage.row(alloc, case, given),
-            "tracker" => tracker::row(alloc, &mut self.stage, case, given),
             _ => Err(RowFault::Bad),
         }
     }
@@ -34,9 +29,7 @@ impl Cases for Layers {
 
 fn main(rt: HostRuntime) -> io::Result<()> {
     let mut names = Names::new(rt.alloc());
-    let mut layers = Layers {
-        stage: Stage::new(),
-    };
+    let mut layers = Layers;
     for line in BufReader::new(rt.alloc(), rt.reader())?.lines(rt.alloc()) {
         print_row(&rt, &mut names, &mut layers, line?.as_str())?;
     }

@@ -1,5 +1,5 @@
 use Rattle.jl_entry.specs.Names.{root_of}
-use Rattle.jl_store_cases.proofs.clearing.entries.Goals as goal
+use Rattle.jl_clear_cases.proofs.clearing.entries.Goals as goal
 
 pub clear_entries-requires : goal.clear_entries-requires
 clear_entries-requires g c =
