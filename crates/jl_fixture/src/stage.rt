@@ -34,7 +34,7 @@ fn new_folder(alloc: Global) -> Result<MemFolder, RowFault> {
     )?)
 }
 
-/// How many moves the token of the run has made, and how many faults and calls the run had.
+/// How many moves the run has made, and how many faults and calls it had.
 pub fn counts(alloc: Global, watched: &Watched<'_>) -> Told {
     let moves = watched.inner.moves();
     let faults = watched.inner.faults();
