@@ -213,7 +213,7 @@ returns-clause-once g c = λ t.
     let same = c.held-held.ensures.frame.token in
     let waits = c.held-held.ensures.waits t in
     let text : _ ≡ code_text c.args.code.now c.args.line = c.as_slice.ensures ∙ c.in-Ok-write_code.ensures.text in
-    let whole = subst (IsWhole code) (sym text) (code_whole m f c.args.code.now c.args.line c.requires.line (omega arith) c.requires.code) in
+    let whole = subst (IsWhole code) (sym text) (code_whole m f c.args.code.now c.args.line c.requires.line (omega arith) c.requires.code c.requires.one_line) in
     let temp = subst (λ (u : List ℕ). IsTemp root code u files.temp) (sym (token_is g c)) c.in-Ok.ensures.2 in
     subst (λ (p : PathView). PutsInTurn (p ∷ []) old.token (moved old new)) c.in-Ok.ensures.1.is
     (turns_then [] (files.last ∷ []) old mid new (goes_waits old mid same waits) (c.follow.ensures.stores.goes told)
