@@ -1,12 +1,12 @@
 -- The lines of bytes, by the first of them.
-use Rattle.std.proofs.Common.{◌≡◌, ℕ, ◌<◌, ◌≤◌, inl, inr, List, [], ◌∷◌, ◌++◌, Bool, true, false, ◌||◌, cond, nat_lt, length, sym, ◌∙◌, ap, refl, arith, length-append, true≢false}
+use Rattle.std.proofs.Common.{◌≡◌, ℕ, ◌<◌, ◌≤◌, inl, inr, List, [], ◌∷◌, ◌++◌, Bool, true, false, ◌||◌, not, cond, nat_lt, length, sym, ◌∙◌, ap, refl, arith, length-append, true≢false}
 use Rattle.std.proofs.lemmas.List.{append_assoc, append-nil}
 use Rattle.std.proofs.lemmas.Bool.Decides.{Decides-ltb, leb_tells}
 use Rattle.jl_streams.specs.Views.{SourceView}
 use Rattle.jl_lines.specs.declared.reader.NextLine.{NextLine}
 use Rattle.jl_lines.specs.declared.reader.NextLine.TheVariants as next_line
 use Rattle.jl_lines.specs.Lines.{is_newline, has_newline, first_line, behind_line, body_of, put_before, lines_of}
-use Rattle.jl_lines.specs.Steps.{ReaderView, waiting, is_long, IsWhole, Answers, NextStep, LeftIs, Follows}
+use Rattle.jl_lines.specs.Steps.{ReaderView, waiting, is_long, KnowsEnd, Answers, NextStep, LeftIs, Follows}
 use Rattle.jl_lines.proofs.StepLemmas.{of_or}
 
 -- bytes that aren't none have a first line
@@ -29,11 +29,14 @@ first_line-whole (b ∷ bs) t there = elim (is_newline b) as (λ v. (v || has_ne
 ] there
 
 -- the first line of bytes that are whole, or at whose end the source ends
-whole_first : (bytes left' : List ℕ) (E : Type 0) → (E → left' ≡ []) → IsWhole bytes E → (first_line (bytes ++ left') ≡ first_line bytes) × (behind_line (bytes ++ left') ≡ behind_line bytes ++ left') × (body_of (bytes ++ left') ≡ body_of bytes)
-whole_first bytes left' E ends (inl there) = first_line-whole bytes left' there
-whole_first bytes left' E ends (inr e) =
-    let same : bytes ++ left' ≡ bytes = ap (λ l. bytes ++ l) (ends e) ∙ append-nil bytes in
-    (ap first_line same, ap behind_line same ∙ sym (append-nil (behind_line bytes)) ∙ ap (λ l. behind_line bytes ++ l) (sym (ends e)), ap body_of same)
+whole_first : (bytes left' : List ℕ) → (has_newline bytes ≡ false → left' ≡ []) → (first_line (bytes ++ left') ≡ first_line bytes) × (behind_line (bytes ++ left') ≡ behind_line bytes ++ left') × (body_of (bytes ++ left') ≡ body_of bytes)
+whole_first bytes left' ends = elim (has_newline bytes) as (λ v. has_newline bytes ≡ v → (first_line (bytes ++ left') ≡ first_line bytes) × (behind_line (bytes ++ left') ≡ behind_line bytes ++ left') × (body_of (bytes ++ left') ≡ body_of bytes)) [
+  | true ↦ λ there. first_line-whole bytes left' there
+  | false ↦ λ none.
+      let nothing = ends none in
+      let same : bytes ++ left' ≡ bytes = ap (λ l. bytes ++ l) nothing ∙ append-nil bytes in
+      (ap first_line same, ap behind_line same ∙ sym (append-nil (behind_line bytes)) ∙ ap (λ l. behind_line bytes ++ l) (sym nothing), ap body_of same)
+] refl
 
 -- a test of which the second part passes where the first doesn't
 over_of : (a : Bool) (m n : ℕ) → (a || nat_lt m n) ≡ true → a ≡ false → m < n
@@ -46,8 +49,8 @@ within_of m n e = elim (leb_tells n m) [
 ]
 
 -- a step's answer is that of the lines ahead, where the source tells
-pub step_follows : (old new : ReaderView) (x y : SourceView) (answer : NextLine) → x.told → NextStep old new x y answer → Follows old answer (waiting old ++ x.left) (waiting new ++ y.left)
-step_follows old new x y answer t s = go answer (s.left_is t) s.answer_is
+pub step_follows : (old new : ReaderView) (x y : SourceView) (answer : NextLine) → x.told → KnowsEnd old x → NextStep old new x y answer → Follows old answer (waiting old ++ x.left) (waiting new ++ y.left)
+step_follows old new x y answer t knows s = go answer (s.left_is t) s.answer_is
   where
     bytes : List ℕ
     bytes = waiting old ++ s.got
@@ -58,17 +61,21 @@ step_follows old new x y answer t s = go answer (s.left_is t) s.answer_is
     ahead : x.left ≡ s.got ++ y.left → waiting old ++ x.left ≡ (waiting old ++ s.got) ++ y.left
     ahead e = ap (λ l. waiting old ++ l) e ∙ sym (append_assoc (waiting old) s.got y.left)
 
-    go : (answer : NextLine) → LeftIs answer s.got x y → Answers old new (waiting old ++ s.got) (x.told → y.left ≡ []) answer → Follows old answer (waiting old ++ x.left) (waiting new ++ y.left)
+    -- behind a line without a newline nothing is left
+    at_end : new.ended ≡ not (has_newline bytes) → has_newline bytes ≡ false → y.left ≡ []
+    at_end ended none = s.end_is t knows (ended ∙ ap not none)
+
+    go : (answer : NextLine) → LeftIs answer s.got x y → Answers old new (waiting old ++ s.got) answer → Follows old answer (waiting old ++ x.left) (waiting new ++ y.left)
     go (next_line.Line number body) e h =
         let all = ahead e in
-        let w = whole_first (waiting old ++ s.got) y.left (x.told → y.left ≡ []) (λ f. f t) h.4 in (
+        let w = whole_first (waiting old ++ s.got) y.left (at_end h.0.ended_is) in (
           lines_first (waiting old ++ x.left) (omega (arith, ap length all, length-append (waiting old ++ s.got) y.left, h.2)) ∙ ap (λ l. first_line (waiting old ++ x.left) ∷ lines_of l) (ap behind_line all ∙ w.1 ∙ ap (λ l. l ++ y.left) (sym h.0.waiting_is)),
           h.3 ∙ sym (ap body_of all ∙ w.2),
           le_by (ap length (ap first_line all ∙ w.0)) (within_of old.limit (length (first_line (waiting old ++ s.got))) (of_or _ _ h.1).1),
         )
     go (next_line.TooLong number) e h = λ short.
         let all = ahead e in
-        let w = whole_first (waiting old ++ s.got) y.left (x.told → y.left ≡ []) (λ f. f t) h.2 in
+        let w = whole_first (waiting old ++ s.got) y.left (at_end h.0.ended_is) in
         let over : old.limit < length (first_line (waiting old ++ s.got)) = over_of old.long old.limit (length (first_line (waiting old ++ s.got))) h.1 short in
         let first_is : length (first_line (waiting old ++ x.left)) ≡ length (first_line (waiting old ++ s.got)) = ap length (ap first_line all ∙ w.0) in (
           lines_first (waiting old ++ x.left) (some (waiting old ++ x.left) (omega (arith, first_is, over))) ∙ ap (λ l. first_line (waiting old ++ x.left) ∷ lines_of l) (ap behind_line all ∙ w.1 ∙ ap (λ l. l ++ y.left) (sym h.0.waiting_is)),
@@ -81,7 +88,8 @@ step_follows old new x y answer t s = go answer (s.left_is t) s.answer_is
     go next_line.End e h =
         let all = ahead e in
         let nothing : waiting new ≡ [] = h.0.waiting_is ∙ (elim (is_long old (waiting old ++ s.got)) as (λ v. cond v [] (waiting old ++ s.got) ≡ []) [ true ↦ refl | false ↦ h.2 ]) in
-        (ap lines_of (all ∙ (λ i. h.2 i ++ h.3 t i)), ap lines_of (λ i. nothing i ++ h.3 t i))
+        let end = s.end_is t knows h.3 in
+        (ap lines_of (all ∙ (λ i. h.2 i ++ end i)), ap lines_of (λ i. nothing i ++ end i))
     go next_line.TooMuch e h = tt
     go next_line.ReadFault e h = tt
     go next_line.NoMemory e h = tt

@@ -1,10 +1,9 @@
 -- What a block of bytes gets from a source.
-use Rattle.std.specs.Prelude.{◌≡◌, ℕ, ◌≤◌, List, [], ◌++◌, length, take}
+use Rattle.std.specs.Prelude.{◌≡◌, ℕ, ◌≤◌, List, [], ◌++◌, Result, Ok, Err, length, take}
+use Rattle.std.specs.declared.alloc.AllocError.{AllocError}
 use Rattle.jl_streams.specs.declared.source.Got.{Got}
 use Rattle.jl_streams.specs.declared.source.Got.TheVariants as got
 use Rattle.jl_streams.specs.Views.{SourceView}
-use Rattle.jl_lines.specs.declared.block.Filled.{Filled}
-use Rattle.jl_lines.specs.declared.block.Filled.TheVariants as filled
 
 -- at least one byte and at most so many stand at the front of the buffer, and were left where that is told
 abbrev pub GivesFront : Got → ℕ → List ℕ → SourceView → SourceView → Type 0
@@ -13,8 +12,8 @@ GivesFront got.End most buf' before after = before.told → (before.left ≡ [])
 GivesFront got.Failed most buf' before after = before.told → after.left ≡ before.left
 
 -- the block holds at least one byte and at most so many, which were left where that is told; or it holds none
-abbrev pub Fills : Filled → ℕ → List ℕ → SourceView → SourceView → Type 0
-Fills filled.Bytes most bytes before after = (1 ≤ length bytes) × (length bytes ≤ most) × (before.told → before.left ≡ bytes ++ after.left)
-Fills filled.End most bytes before after = (bytes ≡ []) × (before.told → (before.left ≡ []) × (after.left ≡ []))
-Fills filled.Failed most bytes before after = (bytes ≡ []) × (before.told → after.left ≡ before.left)
-Fills filled.NoMemory most bytes before after = (bytes ≡ []) × (after.left ≡ before.left)
+abbrev pub Fills : Result Got AllocError → ℕ → List ℕ → SourceView → SourceView → Type 0
+Fills (Ok (got.Bytes k)) most bytes before after = (1 ≤ length bytes) × (length bytes ≤ most) × (before.told → before.left ≡ bytes ++ after.left)
+Fills (Ok got.End) most bytes before after = (bytes ≡ []) × (before.told → (before.left ≡ []) × (after.left ≡ []))
+Fills (Ok got.Failed) most bytes before after = (bytes ≡ []) × (before.told → after.left ≡ before.left)
+Fills (Err e) most bytes before after = (bytes ≡ []) × (after.left ≡ before.left)

@@ -1,18 +1,21 @@
 -- What a reader of lines answers, and what it is afterwards.
-use Rattle.std.specs.Prelude.{◌≡◌, ℕ, ◌+◌, ◌-◌, ◌<◌, ◌≤◌, ◌⊎◌, List, [], ◌∷◌, ◌++◌, Bool, true, false, ◌||◌, cond, nat_lt, length, take, drop}
+use Rattle.std.specs.Prelude.{◌≡◌, ℕ, ◌+◌, ◌-◌, ◌<◌, ◌≤◌, List, [], ◌∷◌, ◌++◌, Bool, true, false, ◌||◌, not, cond, nat_lt, length, take, drop}
 use Rattle.jl_text.specs.declared.limits.TheConstants.{MOST_INPUT_BYTES}
 use Rattle.jl_streams.specs.Views.{SourceView}
 use Rattle.jl_lines.specs.declared.reader.NextLine.{NextLine}
 use Rattle.jl_lines.specs.declared.reader.NextLine.TheVariants as next_line
 use Rattle.jl_lines.specs.Lines.{has_newline, first_line, behind_line, body_of, lines_of}
 
--- a reader: the longest line that it answers, how many bytes it took and how many lines it passed; whether it stands in a line that is longer than that;
--- and the bytes that it took of lines that it hasn't passed, the front ones in no whole line. Of a line that is too long it keeps none.
+-- a reader: the longest line that it answers, how many bytes it took and how many lines it passed;
+-- whether it stands in a line that is longer than that, and whether it met the end of the source;
+-- and the bytes that it took of lines that it hasn't passed, the front ones in no whole line.
+-- Of a line that is too long it keeps none.
 pub record ReaderView : Type 0 where
   pub limit : ℕ
   pub taken : ℕ
   pub lines : ℕ
   pub long : Bool
+  pub ended : Bool
   pub front : List ℕ
   pub rest : List ℕ
 
@@ -24,12 +27,17 @@ waiting v = v.front ++ v.rest
 abbrev pub is_long : ReaderView → List ℕ → Bool
 is_long v bytes = v.long || nat_lt v.limit (length (first_line bytes))
 
--- the first line of the bytes is passed
+-- where the reader met the end, this source has nothing left
+abbrev pub KnowsEnd : ReaderView → SourceView → Type 0
+KnowsEnd v source = v.ended ≡ true → source.left ≡ []
+
+-- the first line of the bytes is passed; where it has no newline, the end of the source was met behind it
 pub record Passes (old new : ReaderView) (bytes : List ℕ) (number : ℕ) : Type 0 where
   pub number_is : number ≡ old.lines + 1
   pub lines_is : new.lines ≡ number
   pub long_is : new.long ≡ false
   pub waiting_is : waiting new ≡ behind_line bytes
+  pub ended_is : new.ended ≡ not (has_newline bytes)
 
 -- no line is passed; of a line that is too long nothing is kept
 pub record Keeps (old new : ReaderView) (bytes : List ℕ) : Type 0 where
@@ -37,18 +45,14 @@ pub record Keeps (old new : ReaderView) (bytes : List ℕ) : Type 0 where
   pub long_is : new.long ≡ is_long old bytes
   pub waiting_is : waiting new ≡ cond (is_long old bytes) [] bytes
 
--- a line ends with a newline, or with the source
-abbrev pub IsWhole : List ℕ → Type 0 → Type 0
-IsWhole bytes Ended = (has_newline bytes ≡ true) ⊎ Ended
-
--- what is answered over the bytes that wait and those that were taken in this call; `Ended`: the source has ended
-abbrev pub Answers : ReaderView → ReaderView → List ℕ → Type 0 → NextLine → Type 0
-Answers old new bytes Ended (next_line.Line number body) = Passes old new bytes number × (is_long old bytes ≡ false) × (0 < length bytes) × (body ≡ body_of bytes) × IsWhole bytes Ended
-Answers old new bytes Ended (next_line.TooLong number) = Passes old new bytes number × (is_long old bytes ≡ true) × IsWhole bytes Ended
-Answers old new bytes Ended next_line.End = Keeps old new bytes × (old.long ≡ false) × (bytes ≡ []) × Ended
-Answers old new bytes Ended next_line.TooMuch = Keeps old new bytes × (has_newline bytes ≡ false) × (new.taken ≡ MOST_INPUT_BYTES)
-Answers old new bytes Ended next_line.ReadFault = Keeps old new bytes × (has_newline bytes ≡ false)
-Answers old new bytes Ended next_line.NoMemory = Keeps old new bytes
+-- what is answered over the bytes that wait and those that were taken in this call
+abbrev pub Answers : ReaderView → ReaderView → List ℕ → NextLine → Type 0
+Answers old new bytes (next_line.Line number body) = Passes old new bytes number × (is_long old bytes ≡ false) × (0 < length bytes) × (body ≡ body_of bytes)
+Answers old new bytes (next_line.TooLong number) = Passes old new bytes number × (is_long old bytes ≡ true)
+Answers old new bytes next_line.End = Keeps old new bytes × (old.long ≡ false) × (bytes ≡ []) × (new.ended ≡ true)
+Answers old new bytes next_line.TooMuch = Keeps old new bytes × (has_newline bytes ≡ false) × (new.ended ≡ false) × (new.taken ≡ MOST_INPUT_BYTES)
+Answers old new bytes next_line.ReadFault = Keeps old new bytes × (has_newline bytes ≡ false) × (new.ended ≡ false)
+Answers old new bytes next_line.NoMemory = Keeps old new bytes × (new.ended ≡ false)
 
 -- where the source went: the bytes taken were left, and at `TooMuch` one more
 abbrev pub LeftIs : NextLine → List ℕ → SourceView → SourceView → Type 0
@@ -59,14 +63,15 @@ LeftIs next_line.TooMuch got before after = (b : ℕ) × (before.left ≡ got ++
 LeftIs next_line.ReadFault got before after = before.left ≡ got ++ after.left
 LeftIs next_line.NoMemory got before after = before.left ≡ got ++ after.left
 
--- one call: the bytes that it took, and what it answers over them
+-- one call: the bytes that it took, and what it answers over them; what it knows of the end is so of the source
 pub record NextStep (old new : ReaderView) (before after : SourceView) (answer : NextLine) : Type 0 where
   pub got : List ℕ
   pub limit_is : new.limit ≡ old.limit
   pub taken_is : new.taken ≡ old.taken + length got
   pub most : new.taken ≤ MOST_INPUT_BYTES
   pub left_is : before.told → LeftIs answer got before after
-  pub answer_is : Answers old new (waiting old ++ got) (before.told → after.left ≡ []) answer
+  pub end_is : before.told → KnowsEnd old before → KnowsEnd new after
+  pub answer_is : Answers old new (waiting old ++ got) answer
 
 -- where the bytes that are ahead went: the first of their lines was answered, or none; `ahead` are the bytes that wait and those that the source has left
 abbrev pub Follows : ReaderView → NextLine → List ℕ → List ℕ → Type 0
@@ -86,13 +91,14 @@ IsSettled next_line.TooMuch = ⊥
 IsSettled next_line.ReadFault = ⊥
 IsSettled next_line.NoMemory = Unit {0}
 
--- an answer over the bytes that wait; nothing was taken
-pub record Settles (Ended : Type 0) (old new : ReaderView) (answer : NextLine) : Type 0 where
+-- an answer over the bytes that wait, and whether the end is met with it; nothing was taken
+pub record Settles (ended : Bool) (old new : ReaderView) (answer : NextLine) : Type 0 where
   pub kind : IsSettled answer
   pub limit_is : new.limit ≡ old.limit
   pub taken_is : new.taken ≡ old.taken
   pub most : new.taken ≤ MOST_INPUT_BYTES
-  pub answer_is : Answers old new (waiting old) Ended answer
+  pub ended_is : new.ended ≡ ended
+  pub answer_is : Answers old new (waiting old) answer
 
 -- whatever bytes come behind, `new` over the bytes `there` answers what `old` answers over the bytes `here`
 pub record Stands (old new : ReaderView) (here there : List ℕ) : Type 0 where
@@ -101,12 +107,13 @@ pub record Stands (old new : ReaderView) (here there : List ℕ) : Type 0 where
   pub newline_is : (more : List ℕ) → has_newline (there ++ more) ≡ has_newline (here ++ more)
   pub same : (more : List ℕ) → is_long old (here ++ more) ≡ false → there ≡ here
 
--- bytes were taken, and no line is passed yet
+-- bytes were taken, no line is passed yet, and the end isn't met
 pub record Goes (old new : ReaderView) (before after : SourceView) : Type 0 where
   pub got : List ℕ
   pub limit_is : new.limit ≡ old.limit
   pub taken_is : new.taken ≡ old.taken + length got
   pub lines_is : new.lines ≡ old.lines
+  pub going : new.ended ≡ false
   pub left_is : before.told → before.left ≡ got ++ after.left
   pub stands : Stands old new (waiting old ++ got) (waiting new)
 
@@ -117,10 +124,11 @@ pub record Advances (old new : ReaderView) (before after : SourceView) : Type 0 
   pub most : new.taken ≤ MOST_INPUT_BYTES
   pub goes : Goes old new before after
 
--- the bytes that wait are no whole line, and all of them were looked at
+-- the bytes that wait are no whole line, and all of them were looked at; the end isn't met
 pub record Looks (old new : ReaderView) : Type 0 where
   pub limit_is : new.limit ≡ old.limit
   pub taken_is : new.taken ≡ old.taken
+  pub going : new.ended ≡ false
   pub none : has_newline (waiting old) ≡ false
   pub keeps : Keeps old new (waiting old)
   pub rest_is : new.rest ≡ []

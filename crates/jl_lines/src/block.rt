@@ -1,22 +1,12 @@
 // Bytes that were read at once, and are used one part after another.
-ghost use Rattle.std.specs.Prelude.{◌≡◌, ◌<◌, ◌≤◌, [], ◌++◌, length, take, drop, vec_len};
-ghost use Rattle.std.specs.Bool.{MatchBool};
+ghost use Rattle.std.specs.Prelude.{◌≡◌, ◌<◌, ◌≤◌, [], Ok, ◌++◌, length, take, drop, OnOk};
 ghost use Rattle.jl_streams.specs.Views.{SourceAnswers};
 ghost use Rattle.jl_lines.specs.Blocks.{Fills, GivesFront};
 
 use jl_streams::{Got, Source};
 use jl_text::limits::PIECE_BYTES;
-use std::alloc::Global;
+use std::alloc::{AllocError, Global};
 use std::marker::Model;
-
-/// How a block was filled.
-#[derive(Clone, Copy, Debug, PartialEq, Eq)]
-pub enum Filled {
-    Bytes,
-    End,
-    Failed,
-    NoMemory,
-}
 
 #[derive(Drop)]
 pub struct Block {
@@ -50,6 +40,16 @@ fn read_front<S: Source>(source: &mut S, buf: &mut [u8], most: u64) -> Got
     source.read(&mut buf[..size])
 }
 
+// Makes the room for reads, at the first one.
+fn make_room(alloc: Global, bytes: &mut Vec<u8>) -> Result<(), AllocError>
+    ensures { OnOk result (0 < length bytes.new.items) }
+{
+    if bytes.is_empty() {
+        *bytes = vec![in alloc; 0u8; PIECE_BYTES]?;
+    }
+    Ok(())
+}
+
 impl Block {
     pub fn new(alloc: Global) -> Block
         ensures { result ≡ [] }
@@ -76,56 +76,27 @@ impl Block {
         self.at += count;
     }
 
-    // Makes the room for reads, at the first one.
-    fn make_room(&mut self, alloc: Global) -> bool
-        requires { self.old ≡ [] }
-        ensures { self.new ≡ [] }
+    /// Reads at most so many bytes, where none is left.
+    pub fn fill<S: Source>(
+        &mut self,
+        alloc: Global,
+        source: &mut S,
+        most: u64,
+    ) -> Result<Got, AllocError>
+        requires some { 0 < most }
+        requires empty { self.old ≡ [] }
+        ensures fills { Fills result most self.new (S.view source.old) (S.view source.new) }
+        ensures frame {
+            SourceAnswers (result ≡ Ok Got.Failed) (S.view source.old) (S.view source.new)
+        }
     {
         self.at = 0;
         self.end = 0;
-        if !self.bytes.is_empty() {
-            return true;
+        make_room(alloc, &mut self.bytes)?;
+        let got = read_front(source, self.bytes.as_mut_slice(), most);
+        if let Got::Bytes(count) = got {
+            self.end = count;
         }
-        match vec![in alloc; 0u8; PIECE_BYTES] {
-            Ok(bytes) => {
-                self.bytes = bytes;
-                true
-            }
-            Err(_) => false,
-        }
-    }
-
-    // Reads into the room.
-    fn read<S: Source>(&mut self, source: &mut S, most: u64) -> Filled
-        requires some { 0 < most }
-        requires empty { self.old ≡ [] }
-        ensures fills { Fills result most self.new (S.view source.old) (S.view source.new) }
-        ensures frame { SourceAnswers (result ≡ Filled.Failed) (S.view source.old) (S.view source.new) }
-    {
-        if self.bytes.is_empty() {
-            return Filled::NoMemory;
-        }
-        match read_front(source, self.bytes.as_mut_slice(), most) {
-            Got::Bytes(k) => {
-                self.at = 0;
-                self.end = k;
-                Filled::Bytes
-            }
-            Got::End => Filled::End,
-            Got::Failed => Filled::Failed,
-        }
-    }
-
-    /// Reads at most so many bytes, where none is left.
-    pub fn fill<S: Source>(&mut self, alloc: Global, source: &mut S, most: u64) -> Filled
-        requires some { 0 < most }
-        requires empty { self.old ≡ [] }
-        ensures fills { Fills result most self.new (S.view source.old) (S.view source.new) }
-        ensures frame { SourceAnswers (result ≡ Filled.Failed) (S.view source.old) (S.view source.new) }
-    {
-        if !self.make_room(alloc) {
-            return Filled::NoMemory;
-        }
-        self.read(source, most)
+        Ok(got)
     }
 }

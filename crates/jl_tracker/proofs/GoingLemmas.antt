@@ -3,13 +3,12 @@ use Rattle.std.proofs.Common.{◌≡◌, ℕ, suc, ◌+◌, ◌<◌, ◌≤◌, 
 use Rattle.std.proofs.lemmas.List.{append-nil, append_assoc}
 use Rattle.jl_text.specs.declared.limits.TheConstants.{MOST_LINE_BYTES}
 use Rattle.jl_lines.specs.Lines.{is_newline, has_newline, first_line, behind_line, body_of, put_before, lines_of}
-use Rattle.jl_lines.specs.Steps.{IsWhole}
-use Rattle.jl_lines.proofs.LineLemmas.{behind_line_all}
+use Rattle.jl_lines.proofs.LineLemmas.{first_line_all, behind_line_all}
 use Rattle.std.proofs.lemmas.Bool.Decides.{Decides-ltb, leb_tells}
 use Rattle.jl_tracker.specs.TrackerLines.{LineView, IsTrackerLine}
 use Rattle.jl_tracker.specs.Counting.{CountsView}
 use Rattle.jl_tracker.specs.Effects.{IsReading, IsLineReading, AreReadings, line_effects, after_read, effects_from, counts_after}
-use Rattle.jl_tracker.specs.Tracking.{EndsLines, Seen}
+use Rattle.jl_tracker.specs.Tracking.{EndsLines, Seen, SeenAll}
 
 -- a line and what stands behind it are the bytes
 pub line_split : (bs : List ℕ) → first_line bs ++ behind_line bs ≡ bs
@@ -50,29 +49,50 @@ body_first (b ∷ bs) =
       | false ↦ λ e. ap (λ v. cond v [] (b ∷ body_of (first_line bs))) e ∙ ap (λ l. b ∷ l) more
     ] refl
 
--- one more line was seen
-pub seen_line : (lines : List (List ℕ)) (left w got left₁ left₂ w' : List ℕ) → Seen lines left (w ++ left₁) → left₁ ≡ got ++ left₂ → 0 < length (w ++ got) → IsWhole (w ++ got) (left₂ ≡ []) → w' ≡ behind_line (w ++ got)
-    → Seen (lines ++ first_line (w ++ got) ∷ []) left (w' ++ left₂)
-seen_line lines left w got left₁ left₂ w' s took some whole next = elim s.ends [
-  | inl ends ↦ record {
-    input = s.input ++ first_line (w ++ got);
-    left_is = s.left_is ∙ ap (λ l. s.input ++ l) behind_is ∙ sym (append_assoc s.input (first_line (w ++ got)) (w' ++ left₂));
-    lines_is = ap (λ l. l ++ first_line (w ++ got) ∷ []) s.lines_is ∙ sym (ends (first_line (w ++ got)) ∙ ap (λ l. lines_of s.input ++ l) (line_alone (w ++ got) some));
-    ends = elim (has_newline (w ++ got)) as (λ v. has_newline (w ++ got) ≡ v → EndsLines (s.input ++ first_line (w ++ got)) ⊎ (w' ++ left₂ ≡ [])) [
-      | true ↦ λ there. inl (λ more. ap lines_of (append_assoc s.input (first_line (w ++ got)) more) ∙ ends (first_line (w ++ got) ++ more) ∙ ap (λ l. lines_of s.input ++ l) (whole_line (w ++ got) more there)
-          ∙ ap (λ l. lines_of s.input ++ (l ++ lines_of more)) (sym (line_alone (w ++ got) some)) ∙ sym (append_assoc (lines_of s.input) (lines_of (first_line (w ++ got))) (lines_of more)) ∙ ap (λ l. l ++ lines_of more) (sym (ends (first_line (w ++ got)))))
-      | false ↦ λ none. inr (λ i. (next ∙ behind_line_all (w ++ got) none) i ++ ended whole none i)
-    ] refl;
-  }
-  | inr nothing ↦ absurd (omega (arith, some, ap length (ap (λ l. w ++ l) (sym took) ∙ nothing), length-append w (got ++ left₂), length-append got left₂, length-append w got))
-]
-  where
-    behind_is : w ++ left₁ ≡ first_line (w ++ got) ++ (w' ++ left₂)
-    behind_is = ap (λ l. w ++ l) took ∙ sym (append_assoc w got left₂) ∙ ap (λ l. l ++ left₂) (sym (line_split (w ++ got))) ∙ append_assoc (first_line (w ++ got)) (behind_line (w ++ got)) left₂ ∙ ap (λ l. first_line (w ++ got) ++ (l ++ left₂)) (sym next)
+-- a line that was taken, behind the others
+line_behind : (w got left₁ left₂ w' : List ℕ) → left₁ ≡ got ++ left₂ → w' ≡ behind_line (w ++ got) → w ++ left₁ ≡ first_line (w ++ got) ++ (w' ++ left₂)
+line_behind w got left₁ left₂ w' took next =
+    ap (λ l. w ++ l) took ∙ sym (append_assoc w got left₂) ∙ ap (λ l. l ++ left₂) (sym (line_split (w ++ got)))
+    ∙ append_assoc (first_line (w ++ got)) (behind_line (w ++ got)) left₂ ∙ ap (λ l. first_line (w ++ got) ++ (l ++ left₂)) (sym next)
 
-    ended : IsWhole (w ++ got) (left₂ ≡ []) → has_newline (w ++ got) ≡ false → left₂ ≡ []
-    ended (inl there) none = absurd (true≢false (sym there ∙ none))
-    ended (inr e) none = e
+-- one more line was seen, with its newline
+pub seen_line : (lines : List (List ℕ)) (left w got left₁ left₂ w' : List ℕ) → Seen lines left (w ++ left₁) → left₁ ≡ got ++ left₂ → 0 < length (w ++ got) → has_newline (w ++ got) ≡ true → w' ≡ behind_line (w ++ got)
+    → Seen (lines ++ first_line (w ++ got) ∷ []) left (w' ++ left₂)
+seen_line lines left w got left₁ left₂ w' s took some there next = record {
+  input = s.input ++ first_line (w ++ got);
+  left_is = s.left_is ∙ ap (λ l. s.input ++ l) (line_behind w got left₁ left₂ w' took next) ∙ sym (append_assoc s.input (first_line (w ++ got)) (w' ++ left₂));
+  lines_is = ap (λ l. l ++ first_line (w ++ got) ∷ []) s.lines_is ∙ sym (s.ends (first_line (w ++ got)) ∙ ap (λ l. lines_of s.input ++ l) (line_alone (w ++ got) some));
+  ends = λ more.
+      ap lines_of (append_assoc s.input (first_line (w ++ got)) more)
+      ∙ s.ends (first_line (w ++ got) ++ more)
+      ∙ ap (λ l. lines_of s.input ++ l) (whole_line (w ++ got) more there)
+      ∙ ap (λ l. lines_of s.input ++ (l ++ lines_of more)) (sym (line_alone (w ++ got) some))
+      ∙ sym (append_assoc (lines_of s.input) (lines_of (first_line (w ++ got))) (lines_of more))
+      ∙ ap (λ l. l ++ lines_of more) (sym (s.ends (first_line (w ++ got))));
+}
+
+-- the last line was seen, which has no newline
+pub seen_last : (lines : List (List ℕ)) (left w got left₁ left₂ w' : List ℕ) → Seen lines left (w ++ left₁) → left₁ ≡ got ++ left₂ → 0 < length (w ++ got) → has_newline (w ++ got) ≡ false → left₂ ≡ [] → w' ≡ behind_line (w ++ got)
+    → SeenAll (lines ++ first_line (w ++ got) ∷ []) left (w' ++ left₂)
+seen_last lines left w got left₁ left₂ w' s took some none end next = (
+  ap (λ l. l ++ first_line (w ++ got) ∷ []) s.lines_is ∙ ap (λ l. lines_of s.input ++ l) (sym (line_alone (w ++ got) some)) ∙ sym (s.ends (first_line (w ++ got))) ∙ ap lines_of (sym all),
+  nothing,
+)
+  where
+    nothing : w' ++ left₂ ≡ []
+    nothing = λ i. (next ∙ behind_line_all (w ++ got) none) i ++ end i
+
+    all : left ≡ s.input ++ first_line (w ++ got)
+    all = s.left_is ∙ ap (λ l. s.input ++ l) (line_behind w got left₁ left₂ w' took next ∙ ap (λ l. first_line (w ++ got) ++ l) nothing ∙ append-nil (first_line (w ++ got)))
+
+-- one more line was seen, with its newline, or as the last one without
+pub seen_either : (lines : List (List ℕ)) (left w got left₁ left₂ w' : List ℕ) → Seen lines left (w ++ left₁) → left₁ ≡ got ++ left₂ → 0 < length (w ++ got) → (has_newline (w ++ got) ≡ false → left₂ ≡ []) → w' ≡ behind_line (w ++ got)
+    → Seen (lines ++ first_line (w ++ got) ∷ []) left (w' ++ left₂) ⊎ SeenAll (lines ++ first_line (w ++ got) ∷ []) left (w' ++ left₂)
+seen_either lines left w got left₁ left₂ w' s took some end next =
+    elim (has_newline (w ++ got)) as (λ v. has_newline (w ++ got) ≡ v → Seen (lines ++ first_line (w ++ got) ∷ []) left (w' ++ left₂) ⊎ SeenAll (lines ++ first_line (w ++ got) ∷ []) left (w' ++ left₂)) [
+      | true ↦ λ there. inl (seen_line lines left w got left₁ left₂ w' s took some there next)
+      | false ↦ λ none. inr (seen_last lines left w got left₁ left₂ w' s took some none (end none) next)
+    ] refl
 
 -- one more reading
 pub readings_push : (lines : List (List ℕ)) (rs : List (Option LineView)) (l : List ℕ) (r : Option LineView) → AreReadings lines rs → IsLineReading l r → AreReadings (lines ++ l ∷ []) (rs ++ r ∷ [])

@@ -25,7 +25,7 @@ use Rattle.jl_tracker.specs.Stages.{Stage, FolderPoint, Point, folder_point, poi
 use Rattle.jl_tracker.specs.Removing.{TriesFile, TriesFolder, TriedFile, TriedDir, TriedName, TriedNames, TriedFolder, RemovesFolder, Removal, MayMove, CutFolder, CutRemoval}
 use Rattle.jl_tracker.specs.Tries.{RemovalTry}
 use Rattle.jl_tracker.specs.Plays.{EffectMoves, EffectCut, PlaysAt, CutFirst, StopsAt, Stops}
-use Rattle.jl_tracker.specs.Tracking.{Seen, Tracks}
+use Rattle.jl_tracker.specs.Tracking.{Seen, SeenAll, Tracks}
 use Rattle.jl_tracker.specs.Taking.{all_effects, TakesResource, TakesFor, TakesForSome, MovesAsked}
 
 front_of : (xs ys : List Effect) (m : Move) → TakesForSome xs m → TakesForSome (xs ++ ys) m
@@ -158,12 +158,12 @@ removal_moves k name tried.NoMemory old new h = moves_seen (TakesResource k name
 
 -- lines with which the bytes end are the first of the lines of all
 seen_first : (lines : List (List ℕ)) (left behind : List ℕ) → Seen lines left behind → (rest : List (List ℕ)) × (lines_of left ≡ lines ++ rest)
-seen_first lines left behind s = go s.ends
-  where
-    go : ((more : List ℕ) → lines_of (s.input ++ more) ≡ lines_of s.input ++ lines_of more) ⊎ (behind ≡ []) → (rest : List (List ℕ)) × (lines_of left ≡ lines ++ rest)
-    go (inl ends) = (lines_of behind, ap lines_of s.left_is ∙ ends behind ∙ ap (λ (ls : List (List ℕ)). ls ++ lines_of behind) (sym s.lines_is))
-    go (inr none) =
-        ([], ap lines_of (s.left_is ∙ ap (λ (bs : List ℕ). s.input ++ bs) none ∙ append-nil s.input) ∙ sym s.lines_is ∙ sym (append-nil lines))
+seen_first lines left behind s = (lines_of behind, ap lines_of s.left_is ∙ s.ends behind ∙ ap (λ (ls : List (List ℕ)). ls ++ lines_of behind) (sym s.lines_is))
+
+-- the same where they may be all lines
+some_first : (lines : List (List ℕ)) (left behind : List ℕ) → Seen lines left behind ⊎ SeenAll lines left behind → (rest : List (List ℕ)) × (lines_of left ≡ lines ++ rest)
+some_first lines left behind (inl s) = seen_first lines left behind s
+some_first lines left behind (inr all) = ([], sym all.0 ∙ sym (append-nil lines))
 
 -- what comes about of the lines alone is of the kinds that all lines ask for
 lines_ask : (readings : List (Option LineView)) (m : Move) → TakesForSome (effects_from 1 no_counts readings) m → TakesForSome (all_effects readings) m
@@ -196,10 +196,10 @@ tracks_moves source rest a b tracked.NoMemory told t = record {
   lines = t.lines;
   readings = t.readings;
   read = t.read;
-  first = λ s. seen_first t.lines source.left (t.open_line ++ rest.left) (t.seen s);
+  first = λ s. some_first t.lines source.left (t.open_line ++ rest.left) (t.seen s);
   moves = moves_seen (TakesForSome (all_effects t.readings)) a.folder b.folder (some t.stops);
 }
   where
-    some : Stops (effects_from 1 no_counts t.readings) a b ⊎ ((source.told → (t.lines ≡ lines_of source.left) × (rest.left ≡ [])) × Stops (all_effects t.readings) a b) → Between (TakesForSome (all_effects t.readings)) (folder_point a.folder) (folder_point b.folder)
+    some : Stops (effects_from 1 no_counts t.readings) a b ⊎ ((source.told → SeenAll t.lines source.left rest.left) × Stops (all_effects t.readings) a b) → Between (TakesForSome (all_effects t.readings)) (folder_point a.folder) (folder_point b.folder)
     some (inl h) = stops (TakesForSome (all_effects t.readings)) a (effects_from 1 no_counts t.readings) (point a) (point b) told (lines_ask t.readings) h
     some (inr h) = stops (TakesForSome (all_effects t.readings)) a (all_effects t.readings) (point a) (point b) told (λ m x. x) h.1

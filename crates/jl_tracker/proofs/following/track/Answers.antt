@@ -23,7 +23,7 @@ returns-in-Some-clause-tracks g c =
     let folder = g.F.Folder.view in
     let err = g.E.Sink.view in
     let i = c.lines.invariant in
-    concludes (source c.args.source.now) (source c.lines.source) (source c.next-answer.new.source) (stage (folder c.args.folder.now) (err c.args.err.now)) (stage (folder c.lines.folder) (err c.lines.err)) (stage (folder c.handle.new.folder) (err c.handle.new.err)) c.lines.reader c.next-answer.new.self c.lines.counts c.next-answer.result c.number-number.result c.in-Some.end c.number-number.ensures i.told i.frame i.going c.next-answer.ensures.step c.in-Some.ensures.cases
+    concludes (source c.args.source.now) (source c.lines.source) (source c.next-answer.new.source) (stage (folder c.args.folder.now) (err c.args.err.now)) (stage (folder c.lines.folder) (err c.lines.err)) (stage (folder c.handle.new.folder) (err c.handle.new.err)) c.lines.reader c.next-answer.new.self c.lines.counts c.next-answer.result c.number-number.result c.in-Some.end c.number-number.ensures i.told i.frame i.going (λ met. (c.next-answer.ensures.over met).0) c.next-answer.ensures.step c.in-Some.ensures.cases
 
 pub returns-in-Some-clause-moves : goal.returns-in-Some-clause-moves
 returns-in-Some-clause-moves g c = λ told.
@@ -67,5 +67,5 @@ lines-preserved g c =
       told = λ t. c.next-answer.ensures.frame.told (i.told t);
       steady = c.next-answer.ensures.frame.faults.steady (no_fault c.next-answer.result c.lines.counts c.handle.new.counts b d c.in_default.ensures.cases) ∙ i.steady;
       frame = stage_keeps_trans a b d i.frame c.handle.ensures.frame;
-      going = goes_on (source c.args.source.now) (source c.lines.source) (source c.next-answer.new.source) a b d c.lines.reader c.next-answer.new.self c.lines.counts c.handle.new.counts c.next-answer.result i.told i.frame i.going c.next-answer.ensures.step c.in_default.ensures.cases;
+      going = goes_on (source c.args.source.now) (source c.lines.source) (source c.next-answer.new.source) a b d c.lines.reader c.next-answer.new.self c.lines.counts c.handle.new.counts c.next-answer.result i.told i.frame i.going (λ met. (c.next-answer.ensures.over met).0) c.next-answer.ensures.step c.in_default.ensures.cases;
     }

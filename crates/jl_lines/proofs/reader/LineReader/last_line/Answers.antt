@@ -1,4 +1,4 @@
-use Rattle.std.proofs.Common.{◌+◌, ◌<◌, ◌∙◌, length, ap, subst, sym, arith}
+use Rattle.std.proofs.Common.{◌+◌, ◌<◌, ◌∙◌, length, true, ap, subst, sym, arith}
 use Rattle.jl_lines.specs.Readers.{IsReader}
 use Rattle.jl_lines.proofs.StepLemmas.{takes_last, not_zero}
 use Rattle.jl_lines.proofs.reader.LineReader.last_line.Goals as goal
@@ -13,6 +13,7 @@ returns c =
       taken = (is i).taken;
       lines = c.self.inside.lines + 1;
       long = (is i).long;
+      ended = true;
       front = (ap (λ v. v.items) c.replace.ensures.after ∙ c.new.ensures.items) i;
       rest = (is i).rest;
     })

@@ -17,4 +17,4 @@ reads-preserved g c = record {
 }
 
 pub returns-in-Some-clause-lines : goal.returns-in-Some-clause-lines
-returns-in-Some-clause-lines g c = λ t. step_follows _ _ _ _ c.in-Some.answer t (goes_step _ _ _ _ _ _ c.in-Some.answer c.reads.invariant.told c.reads.invariant.goes c.in-Some.ensures.cases)
+returns-in-Some-clause-lines g c = λ t knows. step_follows _ _ _ _ c.in-Some.answer t knows (goes_step _ _ _ _ _ _ c.in-Some.answer c.reads.invariant.told c.reads.invariant.goes c.in-Some.ensures.cases)
