@@ -72,10 +72,6 @@ readings-length (l ∷ ls) [] h = absurd h
 readings-length (l ∷ ls) (r ∷ rs) h = let e = readings-length ls rs h.1 in omega (arith, e)
 
 -- the lines that were read end with as many newlines as stand among the first bytes
-behind_lines : (input rest more : List ℕ) (byte : ℕ) → EndsLines input ⊎ (rest ++ byte ∷ more ≡ []) → EndsLines input
-behind_lines input rest more byte (inl ends) = ends
-behind_lines input rest more byte (inr none) = absurd (omega (arith, ap length none, length-append rest (byte ∷ more)))
-
 first_newlines : (lines : List (List ℕ)) (left rest more : List ℕ) (byte m : ℕ) → (s : Seen lines left (rest ++ byte ∷ more)) → has_newline rest ≡ false → m + (1 + length more) ≡ length left → newlines (take m left) ≡ length lines
 first_newlines lines left rest more byte m s none much =
     let front : List ℕ = s.input ++ rest in
@@ -85,7 +81,7 @@ first_newlines lines left rest more byte m s none much =
     ∙ ap newlines (take-append_seam front (byte ∷ more))
     ∙ newlines-append s.input rest
     ∙ ap (λ (n : ℕ). newlines s.input + n) (newlines-none rest none)
-    ∙ omega (arith, ends-length s.input (behind_lines s.input rest more byte s.ends), ap length s.lines_is)
+    ∙ omega (arith, ends-length s.input s.ends, ap length s.lines_is)
 
 -- ---- the output
 

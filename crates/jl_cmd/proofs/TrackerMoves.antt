@@ -108,7 +108,7 @@ tracks_nothing source a = record {
   readings = [];
   open_line = [];
   read = tt;
-  seen = λ s. record { input = []; left_is = refl; lines_is = refl; ends = inl (λ more. refl) };
+  seen = λ s. inl record { input = []; left_is = refl; lines_is = refl; ends = λ more. refl };
   stops = inl record { first = []; rest = []; split = refl; mid = point a; plays = refl; cut = refl };
 }
 

@@ -42,6 +42,7 @@ whole_first bytes left' ends = elim (has_newline bytes) as (λ v. has_newline by
 over_of : (a : Bool) (m n : ℕ) → (a || nat_lt m n) ≡ true → a ≡ false → m < n
 over_of a m n e f = (Decides-ltb m n).0 (ap (λ v. v || nat_lt m n) (sym f) ∙ e)
 
+-- a test that doesn't pass, as an order
 within_of : (m n : ℕ) → nat_lt m n ≡ false → n ≤ m
 within_of m n e = elim (leb_tells n m) [
   | inl p ↦ p.1

@@ -20,27 +20,34 @@ none_first b bs none = elim (is_newline b) as (λ v. (v || has_newline bs) ≡ f
   | false ↦ λ h. (refl, h)
 ] none
 
+-- bytes without a newline stand at the front of the first line
 pub first_line-append : (s t : List ℕ) → has_newline s ≡ false → first_line (s ++ t) ≡ s ++ first_line t
 first_line-append [] t none = refl
 first_line-append (b ∷ bs) t none = let h = none_first b bs none in ap (λ v. b ∷ cond v [] (first_line (bs ++ t))) h.0 ∙ ap (λ l. b ∷ l) (first_line-append bs t h.1)
 
+-- what comes behind the first line doesn't begin among them
 pub behind_line-append : (s t : List ℕ) → has_newline s ≡ false → behind_line (s ++ t) ≡ behind_line t
 behind_line-append [] t none = refl
 behind_line-append (b ∷ bs) t none = let h = none_first b bs none in ap (λ v. cond v (bs ++ t) (behind_line (bs ++ t))) h.0 ∙ behind_line-append bs t h.1
 
+-- the same of the first line without its newline
 pub body_of-append : (s t : List ℕ) → has_newline s ≡ false → body_of (s ++ t) ≡ s ++ body_of t
 body_of-append [] t none = refl
 body_of-append (b ∷ bs) t none = let h = none_first b bs none in ap (λ v. cond v [] (b ∷ body_of (bs ++ t))) h.0 ∙ ap (λ l. b ∷ l) (body_of-append bs t h.1)
 
+-- a newline stands among the others, if anywhere
 pub has_newline-append : (s t : List ℕ) → has_newline s ≡ false → has_newline (s ++ t) ≡ has_newline t
 has_newline-append s t none = list_any-append is_newline s t ∙ ap (λ v. v || has_newline t) none
 
+-- bytes without a newline are one line
 pub first_line_all : (s : List ℕ) → has_newline s ≡ false → first_line s ≡ s
 first_line_all s none = ap first_line (sym (append-nil s)) ∙ first_line-append s [] none ∙ append-nil s
 
+-- the same of a line without its newline
 pub body_of_all : (s : List ℕ) → has_newline s ≡ false → body_of s ≡ s
 body_of_all s none = ap body_of (sym (append-nil s)) ∙ body_of-append s [] none ∙ append-nil s
 
+-- nothing comes behind it
 pub behind_line_all : (s : List ℕ) → has_newline s ≡ false → behind_line s ≡ []
 behind_line_all s none = ap behind_line (sym (append-nil s)) ∙ behind_line-append s [] none
 
@@ -80,6 +87,7 @@ none_there (b ∷ bs) le = elim (is_newline b) as (λ v. length (b ∷ bs) ≤ c
   | false ↦ λ le. none_there bs (omega (arith, le))
 ] le
 
+-- a newline that was found ends the first line
 pub position-some : (bs : List ℕ) (k : ℕ) → position is_newline bs ≡ Some k → EndsAt bs (k + 1)
 position-some bs k is = elim (nat_lt (position_or_len is_newline bs) (length bs)) as (λ v. nat_lt (position_or_len is_newline bs) (length bs) ≡ v → cond v (Some (position_or_len is_newline bs)) None ≡ Some k → EndsAt bs (k + 1)) [
   | true ↦ λ t e.
@@ -94,6 +102,7 @@ position-some bs k is = elim (nat_lt (position_or_len is_newline bs) (length bs)
     none_some : (b : ℕ) → ◌≡◌ {A = Option ℕ} None (Some b) → ⊥
     none_some b e = cc
 
+-- no newline was found, and there is none
 pub position-none : (bs : List ℕ) → position is_newline bs ≡ None → has_newline bs ≡ false
 position-none bs is = elim (nat_lt (position_or_len is_newline bs) (length bs)) as (λ v. nat_lt (position_or_len is_newline bs) (length bs) ≡ v → cond v (Some (position_or_len is_newline bs)) None ≡ None → has_newline bs ≡ false) [
   | true ↦ λ t e. absurd (some_none _ e)

@@ -22,6 +22,7 @@ pub record FrontEnds (v : ReaderView) (size : ℕ) : Type 0 where
   pub long_is : is_long v (waiting v) ≡ is_over v size
   pub some : 0 < length (waiting v)
 
+-- the line at the front ends behind so many bytes more
 pub front_ends : (v : ReaderView) (size : ℕ) → EndsAt v.rest size → has_newline v.front ≡ false → FrontEnds v size
 front_ends v size ends none = record {
   there = has_newline-append v.front v.rest none ∙ ends.there;
@@ -95,6 +96,7 @@ front_goes_on v none none' =
     let all = has_newline-append v.front v.rest none ∙ none' in
     (all, ap (λ n. v.long || nat_lt v.limit n) (ap length (first_line_all (waiting v) all) ∙ length-append v.front v.rest))
 
+-- the line at the front is too long, and nothing of it is kept
 pub looks_long : (old new : ReaderView) → old.ended ≡ false → has_newline old.front ≡ false → has_newline old.rest ≡ false → is_over old (length old.rest) ≡ true
     → new ≡ record { limit = old.limit; taken = old.taken; lines = old.lines; long = true; ended = old.ended; front = []; rest = [] } → Looks old new
 looks_long old new going none none' over new_is =
@@ -108,6 +110,7 @@ looks_long old new going none none' over new_is =
       rest_is = refl;
     }
 
+-- the line at the front goes on, and all of it is kept
 pub looks_short : (old new : ReaderView) → old.ended ≡ false → has_newline old.front ≡ false → has_newline old.rest ≡ false → is_over old (length old.rest) ≡ false
     → new ≡ record { limit = old.limit; taken = old.taken; lines = old.lines; long = old.long; ended = old.ended; front = old.front ++ old.rest; rest = [] } → Looks old new
 looks_short old new going none none' short new_is =

@@ -160,6 +160,7 @@ keeps_all old new going r none same short not_long =
     is_short : is_long old (waiting old) ≡ false
     is_short = (λ i. not_long i || nat_lt old.limit (length (first_line_all (waiting old) all i))) ∙ ap (nat_lt old.limit) (length-append old.front old.rest) ∙ short
 
+-- one reader after another
 pub stands_trans : (a b c : ReaderView) (x y z : List ℕ) → Stands a b x y → Stands b c y z → Stands a c x z
 stands_trans a b c x y z p q = record {
   long_is = λ more. q.long_is more ∙ p.long_is more;
@@ -318,6 +319,7 @@ looks_goes a b x y l still = record {
   stands = subst (λ here. Stands a b here (waiting b)) (sym (append-nil (waiting a))) (looks_stands a b l);
 }
 
+-- bytes were taken, and not looked at yet
 pub gets_goes : (a b : ReaderView) (x y : SourceView) → a.ended ≡ false → a.rest ≡ [] → Gets a b x y → Goes a b x y
 gets_goes a b x y going none g = record {
   got = b.rest;

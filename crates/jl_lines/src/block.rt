@@ -86,9 +86,8 @@ impl Block {
         requires some { 0 < most }
         requires empty { self.old ≡ [] }
         ensures fills { Fills result most self.new (S.view source.old) (S.view source.new) }
-        ensures frame {
-            SourceAnswers (result ≡ Ok Got.Failed) (S.view source.old) (S.view source.new)
-        }
+        ensures frame { SourceAnswers (result ≡ Ok Got.Failed) (S.view source.old)
+            (S.view source.new) }
     {
         self.at = 0;
         self.end = 0;

@@ -50,23 +50,23 @@ impl Model for LineReader {
     ghost Value = { ReaderView };
 
     ghost view = { λ r. record {
-        limit = r.limit;
-        taken = r.taken;
-        lines = r.lines;
-        long = r.long;
-        ended = r.ended;
-        front = r.front.items;
-        rest = r.block
+      limit = r.limit;
+      taken = r.taken;
+      lines = r.lines;
+      long = r.long;
+      ended = r.ended;
+      front = r.front.items;
+      rest = r.block;
     } };
 
     ghost invariant = { λ r. IsReader (record {
-        limit = r.limit;
-        taken = r.taken;
-        lines = r.lines;
-        long = r.long;
-        ended = r.ended;
-        front = r.front.items;
-        rest = r.block
+      limit = r.limit;
+      taken = r.taken;
+      lines = r.lines;
+      long = r.long;
+      ended = r.ended;
+      front = r.front.items;
+      rest = r.block;
     }) };
 }
 
@@ -90,17 +90,15 @@ fn line_size(bytes: &[u8]) -> Option<usize>
 impl LineReader {
     /// A reader of lines of at most so many bytes, with their newline.
     pub fn new(alloc: Global, limit: u64) -> LineReader
-        ensures {
-            result ≡ record {
-                limit = limit;
-                taken = 0;
-                lines = 0;
-                long = false;
-                ended = false;
-                front = [];
-                rest = []
-            }
-        }
+        ensures { result ≡ record {
+          limit = limit;
+          taken = 0;
+          lines = 0;
+          long = false;
+          ended = false;
+          front = [];
+          rest = [];
+        } }
     {
         LineReader {
             limit,
@@ -187,14 +185,8 @@ impl LineReader {
     fn look_over(&mut self) -> Result<(), AllocError>
         requires going { self.old.ended ≡ false }
         requires none { has_newline self.old.rest ≡ false }
-        ensures {
-            MatchResult
-                result
-                (λ done. Looks self.old self.new)
-                (λ e.
-                    (self.new ≡ self.old)
-                        × (is_over self.old (length self.old.rest) ≡ false))
-        }
+        ensures { MatchResult result (λ done. Looks self.old self.new)
+            (λ e. (self.new ≡ self.old) × (is_over self.old (length self.old.rest) ≡ false)) }
     {
         let count = self.block.rest().len();
         if self.is_over(count) {
@@ -210,12 +202,8 @@ impl LineReader {
     // Passes the line at the front, if it ends among the bytes that wait.
     fn take_line(&mut self, alloc: Global) -> Option<NextLine>
         requires { self.old.ended ≡ false }
-        ensures {
-            MatchOption
-                result
-                (Looks self.old self.new)
-                (λ answer. Settles false self.old self.new answer)
-        }
+        ensures { MatchOption result (Looks self.old self.new)
+            (λ answer. Settles false self.old self.new answer) }
     {
         match line_size(self.block.rest()) {
             Some(size) => Some(self.close_line(alloc, size)),
@@ -253,15 +241,9 @@ impl LineReader {
         requires rest { self.old.rest ≡ [] }
         requires most { self.old.taken ≡ MOST_INPUT_BYTES }
         requires reader { IsReader self.old }
-        ensures step {
-            NextStep self.old self.new (S.view source.old) (S.view source.new) result
-        }
-        ensures frame {
-            SourceAnswers
-                (result ≡ NextLine.ReadFault)
-                (S.view source.old)
-                (S.view source.new)
-        }
+        ensures step { NextStep self.old self.new (S.view source.old) (S.view source.new) result }
+        ensures frame { SourceAnswers (result ≡ NextLine.ReadFault) (S.view source.old)
+            (S.view source.new) }
     {
         let mut byte = [0u8; 1];
         match source.read(&mut byte) {
@@ -276,19 +258,11 @@ impl LineReader {
         requires going { self.old.ended ≡ false }
         requires rest { self.old.rest ≡ [] }
         requires room { self.old.taken < MOST_INPUT_BYTES }
-        ensures cases {
-            MatchOption
-                result
-                (Gets self.old self.new (S.view source.old) (S.view source.new))
-                (λ answer.
-                    NextStep self.old self.new (S.view source.old) (S.view source.new) answer)
-        }
-        ensures frame {
-            SourceAnswers
-                (result ≡ Some NextLine.ReadFault)
-                (S.view source.old)
-                (S.view source.new)
-        }
+        ensures cases { MatchOption result
+            (Gets self.old self.new (S.view source.old) (S.view source.new))
+            (λ answer. NextStep self.old self.new (S.view source.old) (S.view source.new) answer) }
+        ensures frame { SourceAnswers (result ≡ Some NextLine.ReadFault) (S.view source.old)
+            (S.view source.new) }
     {
         let most = MOST_INPUT_BYTES - self.taken;
         match self.block.fill(alloc, source, most) {
@@ -306,19 +280,11 @@ impl LineReader {
     fn go_on<S: Source>(&mut self, alloc: Global, source: &mut S) -> Option<NextLine>
         requires going { self.old.ended ≡ false }
         requires rest { self.old.rest ≡ [] }
-        ensures cases {
-            MatchOption
-                result
-                (Gets self.old self.new (S.view source.old) (S.view source.new))
-                (λ answer.
-                    NextStep self.old self.new (S.view source.old) (S.view source.new) answer)
-        }
-        ensures frame {
-            SourceAnswers
-                (result ≡ Some NextLine.ReadFault)
-                (S.view source.old)
-                (S.view source.new)
-        }
+        ensures cases { MatchOption result
+            (Gets self.old self.new (S.view source.old) (S.view source.new))
+            (λ answer. NextStep self.old self.new (S.view source.old) (S.view source.new) answer) }
+        ensures frame { SourceAnswers (result ≡ Some NextLine.ReadFault) (S.view source.old)
+            (S.view source.new) }
     {
         if self.taken == MOST_INPUT_BYTES {
             return Some(self.probe(alloc, source));
@@ -329,20 +295,12 @@ impl LineReader {
     // Passes the line at the front, or takes more bytes.
     fn advance<S: Source>(&mut self, alloc: Global, source: &mut S) -> Option<NextLine>
         requires { self.old.ended ≡ false }
-        ensures cases {
-            MatchOption
-                result
-                (Advances self.old self.new (S.view source.old) (S.view source.new))
-                (λ answer.
-                    NextStep self.old self.new (S.view source.old) (S.view source.new) answer)
-        }
+        ensures cases { MatchOption result
+            (Advances self.old self.new (S.view source.old) (S.view source.new))
+            (λ answer. NextStep self.old self.new (S.view source.old) (S.view source.new) answer) }
         ensures still { has_newline (waiting self.old) ≡ true → source.new ≡ source.old }
-        ensures frame {
-            SourceAnswers
-                (result ≡ Some NextLine.ReadFault)
-                (S.view source.old)
-                (S.view source.new)
-        }
+        ensures frame { SourceAnswers (result ≡ Some NextLine.ReadFault) (S.view source.old)
+            (S.view source.new) }
     {
         match self.take_line(alloc) {
             Some(answer) => Some(answer),
@@ -353,31 +311,18 @@ impl LineReader {
     /// The next line. The source is read only where no whole line waits, and no more once its end
     /// was met.
     pub fn next<S: Source>(&mut self, alloc: Global, source: &mut S) -> NextLine
-        ensures step {
-            NextStep self.old self.new (S.view source.old) (S.view source.new) result
-        }
-        ensures lines {
-            (S.view source.old).told
-                → KnowsEnd self.old (S.view source.old)
-                → Follows
-                    self.old
-                    result
-                    (waiting self.old ++ (S.view source.old).left)
-                    (waiting self.new ++ (S.view source.new).left)
-        }
+        ensures step { NextStep self.old self.new (S.view source.old) (S.view source.new) result }
+        ensures lines { (S.view source.old).told
+            → KnowsEnd self.old (S.view source.old)
+            → Follows self.old result (waiting self.old ++ (S.view source.old).left)
+            (waiting self.new ++ (S.view source.new).left) }
         ensures still { has_newline (waiting self.old) ≡ true → source.new ≡ source.old }
-        ensures over {
-            self.old.ended ≡ true
-                → (result ≡ NextLine.End) × (self.new ≡ self.old) × (source.new ≡ source.old)
-        }
-        ensures frame {
-            SourceAnswers
-                (result ≡ NextLine.ReadFault)
-                (S.view source.old)
-                (S.view source.new)
-        }
+        ensures over { self.old.ended ≡ true
+            → (result ≡ NextLine.End) × (self.new ≡ self.old) × (source.new ≡ source.old) }
+        ensures frame { SourceAnswers (result ≡ NextLine.ReadFault) (S.view source.old)
+            (S.view source.new) }
     {
-        if self.has_ended() {
+        if self.ended {
             return NextLine::End;
         }
         'reads: loop {

@@ -25,9 +25,11 @@ record Steps (a b : History) (es : Trace) : Type 0 where
   start : b.start ≡ a.start
   trace : b.trace ≡ a.trace ++ es
 
+-- no step was made
 steps_none : (a b : History) → b ≡ a → Steps a b []
 steps_none a b e = record { start = ap (λ h. h.start) e; trace = ap (λ h. h.trace) e ∙ sym (append-nil a.trace) }
 
+-- steps after steps
 steps_trans : (a m b : History) (es fs : Trace) → Steps a m es → Steps m b fs → Steps a b (es ++ fs)
 steps_trans a m b es fs p q = record { start = q.start ∙ p.start; trace = q.trace ∙ ap (λ t. t ++ fs) p.trace ∙ append_assoc a.trace es fs }
 
@@ -35,6 +37,7 @@ steps_trans a m b es fs p q = record { start = q.start ∙ p.start; trace = q.tr
 at_later : (s : State) (es fs : Trace) (P : State → Type 0) → AtSome s es P → AtSome s (es ++ fs) P
 at_later s es fs P h = (h.0, h.1 ++ fs, ap (λ l. l ++ fs) h.2 ∙ append_assoc h.0 h.1 fs, h.3)
 
+-- a state among the later steps
 at_behind : (s : State) (es fs : Trace) (P : State → Type 0) → AtSome (run s es) fs P → AtSome s (es ++ fs) P
 at_behind s es fs P h = (es ++ h.0, h.1, ap (λ l. es ++ l) h.2 ∙ sym (append_assoc es h.0 h.1), subst P (sym (run-append s es h.0)) h.3)
 
@@ -90,6 +93,7 @@ record TriedOne (folder : Bool) (q : PathView) (a m : FolderPoint) : Type 0 wher
   later : a.faults ≤ m.faults
   gone : folder ≡ false → Rose a.faults m.faults ⊎ AtSome (now a.history) moves (λ x. is_file x q ≡ false)
 
+-- what the try of one name made
 tried_one : (folder : Bool) (q : PathView) (a m : FolderPoint) → TriedName folder q a m → TriedOne folder q a m
 tried_one true q a m t = record { moves = []; steps = steps_none a.history m.history (ap (λ p. p.history) t); later = omega (arith, ap (λ p. p.faults) t); gone = λ e. absurd (true≢false e) }
 tried_one false q a m t = record {
@@ -110,6 +114,7 @@ Among : Name → List Name → Type 0
 Among n [] = ⊥
 Among n (x ∷ xs) = (x ≡ n) ⊎ Among n xs
 
+-- an entry of a list is among its names
 among : (xs : List Name) (n : Name) (k : ℕ) → k < length xs → get_or xs k n ≡ n → Among n xs
 unfolding Among
 among [] n k lt e = absurd (omega (arith, lt))
@@ -123,6 +128,7 @@ record TriedMany (p : PathView) (names : List Name) (a b : FolderPoint) : Type 0
   later : a.faults ≤ b.faults
   gone : (n : Name) → Among n names → n.folder ≡ false → Rose a.faults b.faults ⊎ AtSome (now a.history) moves (λ x. is_file x (p ++ n.part ∷ []) ≡ false)
 
+-- the same of each name of a list
 tried_many : (p : PathView) (names : List Name) (a b : FolderPoint) → TriedNames p names a b → TriedMany p names a b
 unfolding Among
 tried_many p [] a b t = record { moves = []; steps = steps_none a.history b.history (ap (λ p. p.history) t); later = omega (arith, ap (λ p. p.faults) t); gone = λ n m e. absurd m }

@@ -15,6 +15,7 @@ use Rattle.jl_tracker.proofs.CauseLemmas.{folder_cause, names_later}
 folder_later : (p : PathView) (done : Bool) (a b : FolderPoint) → TriedFolder p done a b → a.faults ≤ b.faults
 folder_later p done a b t = omega (arith, t.list.steady, names_later p t.names t.listed t.emptied t.tries, t.last.later)
 
+-- no removal lowers the count of faults
 removal_later : (k : Kind) (name : List ℕ) (done : Bool) (a b : FolderPoint) → Removal k name done a b → a.faults ≤ b.faults
 removal_later kind.File name done a b t = t.later
 removal_later kind.Folder name true a b t = folder_later (path_of name) true a b t
@@ -22,6 +23,7 @@ removal_later kind.Folder name false a b (inl t) = t.later
 removal_later kind.Folder name false a b (inr t) = folder_later (path_of name) false a b t
 removal_later kind.Semlock name done a b t = omega (arith, ap (λ p. p.faults) t.1)
 
+-- nor does another effect
 effect_later : (e : Effect) (done : Bool) (a b : FolderPoint) → EffectMoves e done a b → a.faults ≤ b.faults
 effect_later (reports_bad number) done a b t = omega (arith, ap (λ p. p.faults) t)
 effect_later (reports_unknown k name) done a b t = omega (arith, ap (λ p. p.faults) t)

@@ -1,14 +1,14 @@
 -- The tracker goes on, line by line.
-use Rattle.std.proofs.Common.{◌≡◌, ℕ, suc, ◌+◌, ◌<◌, ◌≤◌, ◌⊎◌, inl, inr, List, [], ◌∷◌, ◌++◌, true, false, ◌||◌, cond, Option, Some, None, length, nat_lt, true≢false, sym, ◌∙◌, ap, subst, refl, arith, length-append}
+use Rattle.std.proofs.Common.{◌≡◌, ℕ, suc, ◌+◌, ◌<◌, ◌≤◌, ◌⊎◌, inl, inr, List, [], ◌∷◌, ◌++◌, true, false, ◌||◌, cond, Option, Some, None, length, nat_lt, true≢false, sym, ◌∙◌, ap, subst, refl, arith}
 use Rattle.std.proofs.lemmas.List.{append-nil, append_assoc}
 use Rattle.jl_text.specs.declared.limits.TheConstants.{MOST_LINE_BYTES}
 use Rattle.jl_lines.specs.Lines.{is_newline, has_newline, first_line, behind_line, body_of, put_before, lines_of}
-use Rattle.jl_lines.proofs.LineLemmas.{first_line_all, behind_line_all}
+use Rattle.jl_lines.proofs.LineLemmas.{behind_line_all}
 use Rattle.std.proofs.lemmas.Bool.Decides.{Decides-ltb, leb_tells}
 use Rattle.jl_tracker.specs.TrackerLines.{LineView, IsTrackerLine}
 use Rattle.jl_tracker.specs.Counting.{CountsView}
 use Rattle.jl_tracker.specs.Effects.{IsReading, IsLineReading, AreReadings, line_effects, after_read, effects_from, counts_after}
-use Rattle.jl_tracker.specs.Tracking.{EndsLines, Seen, SeenAll}
+use Rattle.jl_tracker.specs.Tracking.{Seen, SeenAll}
 
 -- a line and what stands behind it are the bytes
 pub line_split : (bs : List ℕ) → first_line bs ++ behind_line bs ≡ bs
@@ -101,10 +101,12 @@ readings_push [] (x ∷ xs) l r h one = absurd h
 readings_push (x ∷ xs) [] l r h one = absurd h
 readings_push (x ∷ xs) (y ∷ ys) l r h one = (h.0, readings_push xs ys l r h.1 one)
 
+-- the counts after one more reading
 pub counts_push : (v : CountsView) (rs : List (Option LineView)) (r : Option LineView) → counts_after v (rs ++ r ∷ []) ≡ after_read r (counts_after v rs)
 counts_push v [] r = refl
 counts_push v (x ∷ xs) r = counts_push (after_read x v) xs r
 
+-- the effects of one more reading
 pub effects_push : (n : ℕ) (v : CountsView) (rs : List (Option LineView)) (r : Option LineView) → effects_from n v (rs ++ r ∷ []) ≡ effects_from n v rs ++ line_effects (n + length rs) r (counts_after v rs)
 effects_push n v [] r = append-nil (line_effects n r v) ∙ (let e : n ≡ n + 0 = omega arith in ap (λ k. line_effects k r v) e)
 effects_push n v (x ∷ xs) r =

@@ -1,6 +1,7 @@
 -- Which moves a removal makes, and the effects of lines.
-use Rattle.std.proofs.Common.{◌≡◌, ◌∙◌, ◌⊎◌, inl, inr, ℕ, List, [], ◌∷◌, ◌++◌, Bool, true, false, Option, None, Some, refl, sym, ap, subst}
+use Rattle.std.proofs.Common.{◌≡◌, ◌∙◌, ◌⊎◌, inl, inr, ℕ, List, [], ◌∷◌, ◌++◌, Bool, true, false, Option, None, Some, Result, Ok, Err, refl, sym, ap, subst}
 use Rattle.std.proofs.lemmas.List.{append-nil}
+use Rattle.std.specs.declared.alloc.AllocError.{AllocError}
 use Rattle.jl_text.specs.Paths.{PathView, path_of}
 use Rattle.jl_folder.specs.declared.moves.Move.{Move}
 use Rattle.jl_folder.specs.declared.moves.Move.TheVariants.{Remove, RemoveDir}
@@ -28,11 +29,13 @@ use Rattle.jl_tracker.specs.Plays.{EffectMoves, EffectCut, PlaysAt, CutFirst, St
 use Rattle.jl_tracker.specs.Tracking.{Seen, SeenAll, Tracks}
 use Rattle.jl_tracker.specs.Taking.{all_effects, TakesResource, TakesFor, TakesForSome, MovesAsked}
 
+-- a move for one of the first effects
 front_of : (xs ys : List Effect) (m : Move) → TakesForSome xs m → TakesForSome (xs ++ ys) m
 front_of [] ys m h = absurd h
 front_of (x ∷ xs) ys m (inl h) = inl h
 front_of (x ∷ xs) ys m (inr h) = inr (front_of xs ys m h)
 
+-- a move for one of the later effects
 back_of : (xs ys : List Effect) (m : Move) → TakesForSome ys m → TakesForSome (xs ++ ys) m
 back_of [] ys m h = h
 back_of (x ∷ xs) ys m h = inr (back_of xs ys m h)
@@ -151,10 +154,10 @@ module _ (Kinds : Move → Type 0) where
       (cut s h.rest h.mid b told (λ m t. k m (subst (λ (xs : List Effect). TakesForSome xs m) (sym h.split) (back_of h.first h.rest m t))) h.cut)
 
 -- a removal, or what want of memory leaves of it
-pub removal_moves : (k : Kind) (name : List ℕ) (r : Tried) (old new : FolderView) → RemovalTry k name r (folder_point old) (folder_point new) → Moves (TakesResource k name) old new
-removal_moves k name tried.Gone old new h = moves_seen (TakesResource k name) old new (removal (TakesResource k name) k name true (folder_point old) (folder_point new) (λ m t. t) h)
-removal_moves k name tried.Kept old new h = moves_seen (TakesResource k name) old new (removal (TakesResource k name) k name false (folder_point old) (folder_point new) (λ m t. t) h)
-removal_moves k name tried.NoMemory old new h = moves_seen (TakesResource k name) old new (cut_removal (TakesResource k name) k name (folder_point old) (folder_point new) (λ m t. t) h)
+pub removal_moves : (k : Kind) (name : List ℕ) (r : Result Tried AllocError) (old new : FolderView) → RemovalTry k name r (folder_point old) (folder_point new) → Moves (TakesResource k name) old new
+removal_moves k name (Ok tried.Gone) old new h = moves_seen (TakesResource k name) old new (removal (TakesResource k name) k name true (folder_point old) (folder_point new) (λ m t. t) h)
+removal_moves k name (Ok tried.Kept) old new h = moves_seen (TakesResource k name) old new (removal (TakesResource k name) k name false (folder_point old) (folder_point new) (λ m t. t) h)
+removal_moves k name (Err e) old new h = moves_seen (TakesResource k name) old new (cut_removal (TakesResource k name) k name (folder_point old) (folder_point new) (λ m t. t) h)
 
 -- lines with which the bytes end are the first of the lines of all
 seen_first : (lines : List (List ℕ)) (left behind : List ℕ) → Seen lines left behind → (rest : List (List ℕ)) × (lines_of left ≡ lines ++ rest)

@@ -20,6 +20,7 @@ ends (b ∷ bs) lt = elim (is_colon b) as (λ v. cond (not v) (1 + position_or_l
       (more.0, ap (λ l. b ∷ l) more.1 ∙ ap (λ k. take k (b ∷ bs)) e, more.2 ∙ ap (λ k. drop k bs) e)
 ] lt
 
+-- where no colon is found there is none
 none_there : (bs : List ℕ) → length bs ≤ position_or_len is_colon bs → has_colon bs ≡ false
 none_there [] le = refl
 none_there (b ∷ bs) le = elim (is_colon b) as (λ v. length (b ∷ bs) ≤ cond (not v) (1 + position_or_len is_colon bs) 0 → (v || has_colon bs) ≡ false) [
@@ -45,6 +46,7 @@ position-some bs k is = elim (nat_lt (position_or_len is_colon bs) (length bs)) 
     none_some : (b : ℕ) → ◌≡◌ {A = Option ℕ} None (Some b) → ⊥
     none_some b e = cc
 
+-- the same, by the place
 pub position-none : (bs : List ℕ) → position is_colon bs ≡ None → has_colon bs ≡ false
 position-none bs is = elim (nat_lt (position_or_len is_colon bs) (length bs)) as (λ v. nat_lt (position_or_len is_colon bs) (length bs) ≡ v → cond v (Some (position_or_len is_colon bs)) None ≡ None → has_colon bs ≡ false) [
   | true ↦ λ t e. absurd (some_none _ e)
@@ -75,6 +77,7 @@ last_cut (x ∷ xs) ys none =
 here_is : (bs : List ℕ) (at : ℕ) → at < length bs → drop at bs ≡ get_or bs at 0 ∷ drop (at + 1) bs
 here_is bs at lt = drop-cons bs at 0 lt ∙ ap (λ n. get_or bs at 0 ∷ drop n bs) (sym (add-one at))
 
+-- the last colon of the bytes
 pub last_there : (bs : List ℕ) (at : ℕ) → at < length bs → get_or bs at 0 ≡ 58 → has_colon (drop (at + 1) bs) ≡ false → CutsLast bs (take at bs) (drop (at + 1) bs)
 last_there bs at lt here none =
     let is : bs ≡ take at bs ++ 58 ∷ drop (at + 1) bs = sym (take-append-drop at bs) ∙ ap (λ l. take at bs ++ l) (here_is bs at lt ∙ ap (λ b. b ∷ drop (at + 1) bs) here) in

@@ -17,6 +17,7 @@ is_named-sound kind.File name utf8 h = (utf8, is_spelled-sound name h)
 is_named-sound kind.Folder name utf8 h = (utf8, is_spelled-sound name h)
 is_named-sound kind.Semlock name utf8 h = (utf8, λ e. true≢false (sym ((Decides-eqb (length name) 0).1 (ap length e)) ∙ not-true _ h))
 
+-- a name that may stand in a line passes the test
 pub is_named-complete : (k : Kind) (name : List ℕ) → IsNameOf k name → is_named k name ≡ true
 is_named-complete kind.File name h = is_spelled-complete name h.1
 is_named-complete kind.Folder name h = is_spelled-complete name h.1
@@ -26,6 +27,7 @@ is_named-complete kind.Semlock (b ∷ bs) h = some
     some : not (nat_eq (length (b ∷ bs)) 0) ≡ true
     some = grind (arith, nat_tests, common_steps)
 
+-- such a name is text
 pub name_utf8 : (k : Kind) (name : List ℕ) → IsNameOf k name → IsUtf8 name
 name_utf8 kind.File name h = h.0
 name_utf8 kind.Folder name h = h.0
@@ -35,6 +37,7 @@ name_utf8 kind.Semlock name h = h.0
 pub words_differ : (a b : List ℕ) → a ≡ b → nat_eq (length a) (length b) ≡ false → ⊥
 words_differ a b e d = true≢false (sym ((Decides-eqb (length a) (length b)).1 (ap length e)) ∙ d)
 
+-- a word is of one kind
 word_of-injective : (j k : Kind) → word_of j ≡ word_of k → j ≡ k
 word_of-injective kind.File kind.File e = refl
 word_of-injective kind.File kind.Folder e = absurd (words_differ _ _ e refl)

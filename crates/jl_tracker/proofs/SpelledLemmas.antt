@@ -140,6 +140,7 @@ spelled_parts ((b ∷ bs) ∷ qs) h =
     or_last false true w e = refl
     or_last false false w e = e
 
+-- the text of a path passes the test
 pub is_spelled-complete : (t : List ℕ) → IsPathText t → is_spelled t ≡ true
 is_spelled-complete t h = and_from (not (nat_lt MOST_PATH_BYTES (length t))) _ (ap not (le-ltb MOST_PATH_BYTES (length t) h.short))
     (subst (λ l. (bytes_eq l (46 ∷ []) || (bytes_eq l (47 ∷ []) || list_all is_part (pieces (behind_slash l)))) ≡ true) (sym h.text_is) (spelled_parts h.path h.is_path))

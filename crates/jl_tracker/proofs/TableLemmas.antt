@@ -19,10 +19,12 @@ use Rattle.jl_tracker.specs.Views.{view_entries}
 abbrev pub is_name : List ℕ → String Global → Bool
 is_name name k = bytes_eq name (string_bytes k)
 
+-- a count is looked up by its name
 pub lookup-view : (name : List ℕ) (es : List (String Global × ℕ)) → lookup (is_name name) es ≡ count_of name (view_entries es)
 lookup-view name [] = refl
 lookup-view name (e ∷ es) = ap (λ r. cond (is_name name e.0) (Some e.1) r) (lookup-view name es)
 
+-- a name is taken out
 pub remove-view : (name : List ℕ) (es : List (String Global × ℕ)) → view_entries (remove_entry (is_name name) es) ≡ without name (view_entries es)
 remove-view name [] = refl
 remove-view name (e ∷ es) =
@@ -32,6 +34,7 @@ remove-view name (e ∷ es) =
       | false ↦ ap (λ r. (string_bytes e.0, e.1) ∷ r) more
     ]
 
+-- a new name comes last
 pub insert-view : (k : String Global) (v : ℕ) (es : List (String Global × ℕ)) → view_entries (insert_entry string_eq es k v) ≡ put (string_bytes k) v (view_entries es)
 insert-view k v [] = refl
 insert-view k v (e ∷ es) =
@@ -41,6 +44,7 @@ insert-view k v (e ∷ es) =
       | false ↦ ap (λ r. (string_bytes e.0, e.1) ∷ r) more
     ]
 
+-- a count is set in its place
 pub set-view : (name : List ℕ) (w : ℕ) (es : List (String Global × ℕ)) → position_or_len (is_name name) (keys_of es) < length (keys_of es) → view_entries (set_value_at es (position_or_len (is_name name) (keys_of es)) w) ≡ put name w (view_entries es)
 set-view name w [] lt = absurd (omega (arith, lt))
 set-view name w (e ∷ es) lt =
@@ -83,6 +87,7 @@ same_entries kind.File v = refl
 same_entries kind.Folder v = refl
 same_entries kind.Semlock v = refl
 
+-- the line `UNREGISTER` on the counts
 pub unregister_applies : (k : Kind) (name : List ℕ) (old new : CountsView) (s : Step) → s ≡ drop_answer (count_in k name old) → new ≡ with_entries k (without name (entries_at k old)) old → Applies (unregisters k name) old new s
 unregister_applies k name old new s is new_is =
     subst (λ r. Applies (unregisters k name) old new r) (sym is)
@@ -91,6 +96,7 @@ unregister_applies k name old new s is new_is =
       | Some n ↦ λ e. (ap drop_answer (sym e), new_is)
     ] refl)
 
+-- the line `MAYBE_UNLINK` on the counts
 pub may_unlink_applies : (k : Kind) (name : List ℕ) (old new : CountsView) (s : Step) → s ≡ release_answer (count_in k name old) → new ≡ with_entries k (released name (entries_at k old)) old → Applies (may_unlink k name) old new s
 may_unlink_applies k name old new s is new_is =
     subst (λ r. Applies (may_unlink k name) old new r) (sym is)
@@ -105,6 +111,7 @@ may_unlink_applies k name old new s is new_is =
       | false ↦ λ h. (h, new_is)
     ] (ap release_answer (sym e))
 
+-- the line `REGISTER` on the counts
 pub register_applies : (k : Kind) (name : List ℕ) (old new : CountsView) (es : Entries) (s : Step) → Registers name (entries_at k old) es s → new ≡ with_entries k es old → Applies (registers k name) old new s
 register_applies k name old new es (step.Counted n) h is = (ap step.Counted h.0, is ∙ ap (λ r. with_entries k r old) h.1)
 register_applies k name old new es step.Dropped h is = absurd h

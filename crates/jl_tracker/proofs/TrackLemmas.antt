@@ -71,6 +71,7 @@ with_newline : (ended there : Bool) → ended ≡ not there → ended ≡ false 
 with_newline ended true is going = refl
 with_newline ended false is going = absurd (true≢false (sym is ∙ going))
 
+-- and where it was met, the line had none
 without_newline : (ended there : Bool) → ended ≡ not there → ended ≡ true → there ≡ false
 without_newline ended true is met = absurd (true≢false (sym met ∙ is))
 without_newline ended false is met = refl
@@ -114,8 +115,8 @@ goes_on source from to a b c reader reader' old new answer st keeps going over s
         go_line source (waiting reader ++ from.left) (waiting reader' ++ to.left) a b c reader reader' old new (first_line bytes) going
         (λ t e. seen_line going.lines source.left (waiting reader) step.got from.left to.left (waiting reader') (going.seen t on) (took (st t)) some (with_newline _ _ passes.ended_is e) passes.waiting_is)
         (λ t e.
-            let none = without_newline _ _ passes.ended_is e in
-            seen_last going.lines source.left (waiting reader) step.got from.left to.left (waiting reader') (going.seen t on) (took (st t)) some none (last_left reader reader' from to bytes on passes.ended_is (step.end_is (st t)) none) passes.waiting_is)
+        let none = without_newline _ _ passes.ended_is e in
+        seen_last going.lines source.left (waiting reader) step.got from.left to.left (waiting reader') (going.seen t on) (took (st t)) some none (last_left reader reader' from to bytes on passes.ended_is (step.end_is (st t)) none) passes.waiting_is)
         (λ t. taken_on source.left step.got from.left to.left (waiting reader) (waiting reader') reader.taken reader'.taken step.taken_is (took (st t)) (going.taken_is t))
         keeps (passes.lines_is ∙ passes.number_is) passes.long_is step.limit_is turn
 
@@ -329,6 +330,7 @@ less_left bs w got w' taken taken' is some next took most =
     let same : length w' ≡ length (behind_line bs) = ap length next in
     omega (arith, parts, all, one, same, took, most)
 
+-- each turn leaves less to do
 pub smaller : (from to : SourceView) (reader reader' : ReaderView) (answer : NextLine) (old new : CountsView) (a b : Stage) → reader.long ≡ false → reader.limit ≡ MOST_LINE_BYTES → NextStep reader reader' from to answer → Handles answer old new a b
     → (MOST_INPUT_BYTES - reader'.taken) + length (waiting reader') < (MOST_INPUT_BYTES - reader.taken) + length (waiting reader)
 smaller from to reader reader' answer old new a b short limit step h = go answer step.answer_is h

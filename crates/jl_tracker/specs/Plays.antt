@@ -1,5 +1,5 @@
 -- How effects come about in a folder and on the error stream, beside others' moves.
-use Rattle.std.specs.Prelude.{◌≡◌, ℕ, ◌≤◌, ◌⊎◌, List, [], ◌∷◌, ◌++◌, Bool, true, false}
+use Rattle.std.specs.Prelude.{◌≡◌, ℕ, ◌≤◌, ◌⊎◌, List, [], ◌∷◌, ◌++◌, Bool, false, Result, Ok, Err}
 use Rattle.jl_text.specs.Counts.{Rose}
 use Rattle.jl_streams.specs.Streams.{WritesPrefix}
 use Rattle.jl_tracker.specs.Stages.{Stage, FolderPoint, SinkPoint, Point, point}
@@ -61,6 +61,6 @@ abbrev pub Stops : List Effect → Stage → Stage → Type 0
 Stops es old new = StopsAt old es (point old) (point new)
 
 -- all of the effects came about, or there was no memory
-abbrev pub PlaysOrStops : Bool → List Effect → Stage → Stage → Type 0
-PlaysOrStops true es old new = Plays es old new
-PlaysOrStops false es old new = Stops es old new
+abbrev pub PlaysOrStops : {A E : Type 0} → Result A E → List Effect → Stage → Stage → Type 0
+PlaysOrStops (Ok done) es old new = Plays es old new
+PlaysOrStops (Err e) es old new = Stops es old new

@@ -16,7 +16,8 @@ pub struct Leaked {
     pub name: Text,
 }
 
-/// How many references there are to each resource, of each kind in order of registration. A count stands still at its last value.
+/// How many references there are to each resource, of each kind in order of registration. A count
+/// stands still at its last value.
 #[derive(Drop)]
 pub struct Counts {
     files: Table,
@@ -85,7 +86,8 @@ impl Counts {
         }
     }
 
-    /// Takes out the next resource that is left: files first, then semaphores, then folders, each kind in order of registration.
+    /// Takes out the next resource that is left: files first, then semaphores, then folders, each
+    /// kind in order of registration.
     pub fn finish(&mut self) -> Option<Leaked>
         ensures { Finishes self.old self.new result }
     {

@@ -1,5 +1,5 @@
 // Brings about what the lines ask for.
-ghost use Rattle.std.specs.Prelude.{◌≡◌, ◌∷◌, [], true, false, MatchBool};
+ghost use Rattle.std.specs.Prelude.{◌≡◌, ◌∷◌, [], false, IsErr, MatchResult};
 ghost use Rattle.jl_tracker.specs.TrackerLines.{view_of};
 ghost use Rattle.jl_tracker.specs.Counting.{after_line, answer_of};
 ghost use Rattle.jl_tracker.specs.Effects.{removes, removal_text, step_effects, effects_of};
@@ -16,11 +16,13 @@ use crate::table::Step;
 use crate::texts::{say, say_bad};
 use jl_folder::Folder;
 use jl_streams::Sink;
-use std::alloc::Global;
+use std::alloc::{AllocError, Global};
 
 // Writes the text about a resource that isn't removed.
-fn say_kept<E: Sink>(alloc: Global, err: &mut E, kind: Kind, name: &str) -> bool
-    ensures wrote { MatchBool result ((E.view err.old).told → Wrote (removal_text kind name.now false) (sink_point (E.view err.old)) (sink_point (E.view err.new))) (err.new ≡ err.old) }
+fn say_kept<E: Sink>(alloc: Global, err: &mut E, kind: Kind, name: &str) -> Result<(), AllocError>
+    ensures wrote { MatchResult result (λ done. (E.view err.old).told
+        → Wrote (removal_text kind name.now false) (sink_point (E.view err.old))
+        (sink_point (E.view err.new))) (λ e. err.new ≡ err.old) }
     ensures frame { SinkKeeps (E.view err.old) (E.view err.new) }
 {
     match kind {
@@ -30,22 +32,23 @@ fn say_kept<E: Sink>(alloc: Global, err: &mut E, kind: Kind, name: &str) -> bool
     }
 }
 
-// Removes a resource, and says where it can't be. Answers whether there was memory, as the next ones do.
+// Removes a resource, and says where it can't be.
 pub fn remove_reported<F: Folder, E: Sink>(
     alloc: Global,
     folder: &mut F,
     err: &mut E,
     kind: Kind,
     name: &str,
-) -> bool
+) -> Result<(), AllocError>
     requires { IsRemovable kind name.now }
-    ensures plays { PlaysOrStops result (removes kind name.now ∷ []) (stage (F.view folder.old) (E.view err.old)) (stage (F.view folder.new) (E.view err.new)) }
-    ensures frame { StageKeeps (stage (F.view folder.old) (E.view err.old)) (stage (F.view folder.new) (E.view err.new)) }
+    ensures plays { PlaysOrStops result (removes kind name.now ∷ [])
+        (stage (F.view folder.old) (E.view err.old)) (stage (F.view folder.new) (E.view err.new)) }
+    ensures frame { StageKeeps (stage (F.view folder.old) (E.view err.old))
+        (stage (F.view folder.new) (E.view err.new)) }
 {
-    match remove(alloc, folder, kind, name) {
-        Tried::Gone => true,
+    match remove(alloc, folder, kind, name)? {
+        Tried::Gone => Ok(()),
         Tried::Kept => say_kept(alloc, err, kind, name),
-        Tried::NoMemory => false,
     }
 }
 
@@ -57,26 +60,32 @@ fn finish_step<F: Folder, E: Sink>(
     kind: Kind,
     name: &str,
     step: Step,
-) -> bool
+) -> Result<(), AllocError>
     requires { IsRemovable kind name.now }
-    ensures plays { PlaysOrStops result (step_effects kind name.now step) (stage (F.view folder.old) (E.view err.old)) (stage (F.view folder.new) (E.view err.new)) }
-    ensures there { step ≡ Step.NoMemory → result ≡ false }
-    ensures frame { StageKeeps (stage (F.view folder.old) (E.view err.old)) (stage (F.view folder.new) (E.view err.new)) }
+    ensures plays { PlaysOrStops result (step_effects kind name.now step)
+        (stage (F.view folder.old) (E.view err.old)) (stage (F.view folder.new) (E.view err.new)) }
+    ensures there { step ≡ Step.NoMemory → IsErr result }
+    ensures frame { StageKeeps (stage (F.view folder.old) (E.view err.old))
+        (stage (F.view folder.new) (E.view err.new)) }
 {
     match step {
         Step::Remove => remove_reported(alloc, folder, err, kind, name),
         Step::Unknown => say(alloc, err, "unknown", kind, name),
-        Step::NoMemory => false,
-        Step::Counted(_) => true,
-        Step::Dropped => true,
-        Step::Nothing => true,
+        Step::NoMemory => Err(AllocError),
+        Step::Counted(_) => Ok(()),
+        Step::Dropped => Ok(()),
+        Step::Nothing => Ok(()),
     }
 }
 
-fn has_memory(step: Step) -> bool
-    ensures { step ≡ Step.NoMemory → result ≡ false }
+// Fails where there was no memory to count a line.
+fn counted(step: Step) -> Result<(), AllocError>
+    ensures { step ≡ Step.NoMemory → IsErr result }
 {
-    step != Step::NoMemory
+    if step == Step::NoMemory {
+        return Err(AllocError);
+    }
+    Ok(())
 }
 
 // What the counting of a line asks for.
@@ -86,17 +95,19 @@ fn finish_line<F: Folder, E: Sink>(
     err: &mut E,
     line: &Line<'_>,
     step: Step,
-) -> bool
+) -> Result<(), AllocError>
     requires { IsSaidRemovable (view_of line.now) }
-    ensures plays { PlaysOrStops result (effects_of (view_of line.now) step) (stage (F.view folder.old) (E.view err.old)) (stage (F.view folder.new) (E.view err.new)) }
-    ensures there { step ≡ Step.NoMemory → result ≡ false }
-    ensures frame { StageKeeps (stage (F.view folder.old) (E.view err.old)) (stage (F.view folder.new) (E.view err.new)) }
+    ensures plays { PlaysOrStops result (effects_of (view_of line.now) step)
+        (stage (F.view folder.old) (E.view err.old)) (stage (F.view folder.new) (E.view err.new)) }
+    ensures there { step ≡ Step.NoMemory → IsErr result }
+    ensures frame { StageKeeps (stage (F.view folder.old) (E.view err.old))
+        (stage (F.view folder.new) (E.view err.new)) }
 {
     match *line {
-        Line::Register(_, _) => has_memory(step),
+        Line::Register(_, _) => counted(step),
         Line::Unregister(kind, name) => finish_step(alloc, folder, err, kind, name, step),
         Line::MaybeUnlink(kind, name) => finish_step(alloc, folder, err, kind, name, step),
-        Line::Probe => has_memory(step),
+        Line::Probe => counted(step),
     }
 }
 
@@ -107,10 +118,17 @@ fn take_good<F: Folder, E: Sink>(
     folder: &mut F,
     err: &mut E,
     line: &Line<'_>,
-) -> bool
+) -> Result<(), AllocError>
     requires { IsSaidRemovable (view_of line.now) }
-    ensures plays { MatchBool result ((counts.new ≡ after_line (view_of line.now) counts.old) × (Plays (effects_of (view_of line.now) (answer_of (view_of line.now) counts.old)) (stage (F.view folder.old) (E.view err.old)) (stage (F.view folder.new) (E.view err.new)))) (Stops (effects_of (view_of line.now) (answer_of (view_of line.now) counts.old)) (stage (F.view folder.old) (E.view err.old)) (stage (F.view folder.new) (E.view err.new))) }
-    ensures frame { StageKeeps (stage (F.view folder.old) (E.view err.old)) (stage (F.view folder.new) (E.view err.new)) }
+    ensures plays { let said = view_of line.now in
+        let before = stage (F.view folder.old) (E.view err.old) in
+        let after = stage (F.view folder.new) (E.view err.new) in
+        let effects = effects_of said (answer_of said counts.old) in
+        MatchResult result
+        (λ done. (counts.new ≡ after_line said counts.old) × Plays effects before after)
+        (λ e. Stops effects before after) }
+    ensures frame { StageKeeps (stage (F.view folder.old) (E.view err.old))
+        (stage (F.view folder.new) (E.view err.new)) }
 {
     let step = counts.apply(alloc, line);
     finish_line(alloc, folder, err, line, step)
@@ -124,9 +142,13 @@ pub fn take_line<F: Folder, E: Sink>(
     err: &mut E,
     number: u64,
     bytes: &[u8],
-) -> bool
-    ensures plays { MatchBool result (LinePlays number bytes.now counts.old counts.new (stage (F.view folder.old) (E.view err.old)) (stage (F.view folder.new) (E.view err.new))) (LineStops number bytes.now counts.old (stage (F.view folder.old) (E.view err.old)) (stage (F.view folder.new) (E.view err.new))) }
-    ensures frame { StageKeeps (stage (F.view folder.old) (E.view err.old)) (stage (F.view folder.new) (E.view err.new)) }
+) -> Result<(), AllocError>
+    ensures plays { let before = stage (F.view folder.old) (E.view err.old) in
+        let after = stage (F.view folder.new) (E.view err.new) in
+        MatchResult result (λ done. LinePlays number bytes.now counts.old counts.new before after)
+        (λ e. LineStops number bytes.now counts.old before after) }
+    ensures frame { StageKeeps (stage (F.view folder.old) (E.view err.old))
+        (stage (F.view folder.new) (E.view err.new)) }
 {
     match read_line(bytes) {
         Ok(line) => take_good(alloc, counts, folder, err, &line),

@@ -1,4 +1,5 @@
-//! The resource tracker: counts of references to files, folders and semaphores, and the removal of what is referred to no longer.
+//! The resource tracker: counts of references to files, folders and semaphores, and the removal of
+//! what is referred to no longer.
 #![tactic(auto)]
 
 mod counts;

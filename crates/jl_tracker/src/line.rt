@@ -56,7 +56,8 @@ fn is_probe(word: &[u8]) -> bool
 }
 
 fn command_of(word: &[u8]) -> Option<Command>
-    ensures { MatchOption result ((command : Command) → word.now ≢ command_word command) (λ command. word.now ≡ command_word command) }
+    ensures { MatchOption result ((command : Command) → word.now ≢ command_word command)
+        (λ command. word.now ≡ command_word command) }
 {
     if word == b"REGISTER".as_slice() {
         return Some(Command::Register);
@@ -71,7 +72,8 @@ fn command_of(word: &[u8]) -> Option<Command>
 }
 
 fn kind_of(word: &[u8]) -> Option<Kind>
-    ensures { MatchOption result ((kind : Kind) → word.now ≢ word_of kind) (λ kind. word.now ≡ word_of kind) }
+    ensures { MatchOption result ((kind : Kind) → word.now ≢ word_of kind)
+        (λ kind. word.now ≡ word_of kind) }
 {
     if word == b"file".as_slice() {
         return Some(Kind::File);
@@ -96,7 +98,8 @@ fn is_named(kind: Kind, name: &str) -> bool
 }
 
 fn name_of(kind: Kind, name: &[u8]) -> Option<&str>
-    ensures { MatchOption result (¬ (IsNameOf kind name.now)) (λ text. (text.now ≡ name.now) × IsNameOf kind name.now) }
+    ensures { MatchOption result (¬ (IsNameOf kind name.now))
+        (λ text. (text.now ≡ name.now) × IsNameOf kind name.now) }
 {
     match str::from_utf8(name) {
         Ok(text) => {
@@ -111,7 +114,9 @@ fn name_of(kind: Kind, name: &[u8]) -> Option<&str>
 }
 
 fn resource_of<'a>(word: &[u8], name: &'a [u8]) -> Option<Resource<'a>>
-    ensures { MatchOption result ((kind : Kind) → word.now ≡ word_of kind → ¬ (IsNameOf kind name.now)) (λ n. (word.now ≡ word_of n.kind) × (n.name.now ≡ name.now) × IsNameOf n.kind name.now) }
+    ensures { MatchOption result
+        ((kind : Kind) → word.now ≡ word_of kind → ¬ (IsNameOf kind name.now))
+        (λ n. (word.now ≡ word_of n.kind) × (n.name.now ≡ name.now) × IsNameOf n.kind name.now) }
 {
     let Some(kind) = kind_of(word) else {
         return None;
@@ -133,7 +138,11 @@ fn line_of<'a>(command: Command, resource: Resource<'a>) -> Line<'a>
 }
 
 fn read_parts(parts: Parts<'_>) -> Result<Line<'_>, BadLine>
-    ensures { MatchResult result (λ line. Says parts.entry.command.now parts.entry.name.now parts.entry.kind.now (view_of line)) (λ e. (said : LineView) → ¬ (Says parts.entry.command.now parts.entry.name.now parts.entry.kind.now said)) }
+    ensures { let command = parts.entry.command.now in
+        let name = parts.entry.name.now in
+        let kind = parts.entry.kind.now in
+        MatchResult result (λ line. Says command name kind (view_of line))
+        (λ e. (said : LineView) → ¬ (Says command name kind said)) }
 {
     if is_probe(parts.command) {
         return Ok(Line::Probe);
@@ -149,8 +158,11 @@ fn read_parts(parts: Parts<'_>) -> Result<Line<'_>, BadLine>
 
 /// The line that the bytes are. Blanks at both ends are dropped. Takes no memory.
 pub fn read_line(bytes: &[u8]) -> Result<Line<'_>, BadLine>
-    ensures read { MatchResult result (λ line. IsTrackerLine bytes.now (view_of line)) (λ e. (said : LineView) → ¬ (IsTrackerLine bytes.now said)) }
-    ensures only { (said : LineView) → IsTrackerLine bytes.now said → IfOk result (λ line. view_of line ≡ said) }
+    ensures read { MatchResult result (λ line. IsTrackerLine bytes.now (view_of line))
+        (λ e. (said : LineView) → ¬ (IsTrackerLine bytes.now said)) }
+    ensures only { (said : LineView)
+        → IsTrackerLine bytes.now said
+        → IfOk result (λ line. view_of line ≡ said) }
 {
     match parts_of(bytes) {
         Some(parts) => read_parts(parts),

@@ -3,7 +3,8 @@ ghost use Rattle.std.specs.Prelude.{◌≡◌, ◌&&◌, false, MatchOption, pos
 ghost use Rattle.jl_tracker.specs.Parts as parts;
 ghost use Rattle.jl_tracker.specs.Parts.{is_blank, is_colon, has_colon, body_of, has_parts, CutsFirst, CutsLast, Splits};
 
-/// What stands before the first colon of a line, between that and the last one, and behind the last one.
+/// What stands before the first colon of a line, between that and the last one, and behind the
+/// last one.
 #[derive(Clone, Copy)]
 pub struct Parts<'a> {
     pub command: &'a [u8],
@@ -49,7 +50,8 @@ fn colon_in(bytes: &[u8]) -> Option<usize>
 
 // What stands before the first colon and behind it.
 fn cut_first(bytes: &[u8]) -> Option<(&[u8], &[u8])>
-    ensures { MatchOption result (has_colon bytes.now ≡ false) (λ p. CutsFirst bytes.now p.0.now p.1.now) }
+    ensures { MatchOption result (has_colon bytes.now ≡ false)
+        (λ p. CutsFirst bytes.now p.0.now p.1.now) }
 {
     match colon_in(bytes) {
         Some(at) => Some((&bytes[..at], &bytes[at + 1..])),
@@ -59,7 +61,8 @@ fn cut_first(bytes: &[u8]) -> Option<(&[u8], &[u8])>
 
 // What stands before the last colon and behind it.
 fn cut_last(bytes: &[u8]) -> Option<(&[u8], &[u8])>
-    ensures { MatchOption result (has_colon bytes.now ≡ false) (λ p. CutsLast bytes.now p.0.now p.1.now) }
+    ensures { MatchOption result (has_colon bytes.now ≡ false)
+        (λ p. CutsLast bytes.now p.0.now p.1.now) }
 {
     let mut at = bytes.len();
     'back: while at > 0 {
@@ -72,7 +75,8 @@ fn cut_last(bytes: &[u8]) -> Option<(&[u8], &[u8])>
 }
 
 fn split_rest<'a>(command: &'a [u8], rest: &'a [u8]) -> Option<Parts<'a>>
-    ensures { MatchOption result (has_colon rest.now ≡ false) (λ p. (p.command.now ≡ command.now) × CutsLast rest.now p.name.now p.kind.now) }
+    ensures { MatchOption result (has_colon rest.now ≡ false)
+        (λ p. (p.command.now ≡ command.now) × CutsLast rest.now p.name.now p.kind.now) }
 {
     match cut_last(rest) {
         Some((name, kind)) => Some(Parts {
@@ -86,7 +90,8 @@ fn split_rest<'a>(command: &'a [u8], rest: &'a [u8]) -> Option<Parts<'a>>
 
 // The parts of bytes that have two colons.
 fn split(body: &[u8]) -> Option<Parts<'_>>
-    ensures { MatchOption result (has_parts body.now ≡ false) (λ p. Splits body.now p.command.now p.name.now p.kind.now) }
+    ensures { MatchOption result (has_parts body.now ≡ false)
+        (λ p. Splits body.now p.command.now p.name.now p.kind.now) }
 {
     match cut_first(body) {
         Some((command, rest)) => split_rest(command, rest),
@@ -96,7 +101,8 @@ fn split(body: &[u8]) -> Option<Parts<'_>>
 
 /// The parts of a line without the blanks at both its ends, if it has two colons.
 pub fn parts_of(line: &[u8]) -> Option<Parts<'_>>
-    ensures { MatchOption result (has_parts (body_of line.now) ≡ false) (λ p. Splits (body_of line.now) p.command.now p.name.now p.kind.now) }
+    ensures { MatchOption result (has_parts (body_of line.now) ≡ false)
+        (λ p. Splits (body_of line.now) p.command.now p.name.now p.kind.now) }
 {
     split(strip_end(strip_front(line)))
 }

@@ -78,7 +78,8 @@ impl Table {
 
     /// Takes out the entry that was registered first.
     pub fn take_first(&mut self) -> Option<Text>
-        ensures { MatchOption result ((self.old ≡ []) × (self.new ≡ [])) (λ name. (count : ℕ) × (self.old ≡ (name, count) ∷ self.new)) }
+        ensures { MatchOption result ((self.old ≡ []) × (self.new ≡ []))
+            (λ name. (count : ℕ) × (self.old ≡ (name, count) ∷ self.new)) }
     {
         match self.entries.shift_remove_index(0) {
             Some((name, _count)) => Some(Text::new(name)),

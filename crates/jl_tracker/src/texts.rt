@@ -1,5 +1,5 @@
 // What the tracker writes.
-ghost use Rattle.std.specs.Prelude.{◌≡◌, ◌∷◌, [], true, false, IfOk, string_bytes, codes, MatchBool};
+ghost use Rattle.std.specs.Prelude.{◌≡◌, ◌∷◌, [], IfOk, string_bytes, codes, MatchResult};
 ghost use Rattle.jl_streams.specs.Views.{SinkKeeps};
 ghost use Rattle.jl_tracker.specs.TrackerLines.{word_of};
 ghost use Rattle.jl_tracker.specs.Effects.{about as about_lem, bad_text};
@@ -35,7 +35,8 @@ fn about_bad(alloc: Global, number: u64) -> Result<String, AllocError>
 
 // Writes a text. A write that fails is not told.
 fn put<E: Sink>(err: &mut E, text: &str)
-    ensures wrote { (E.view err.old).told → Wrote text.now (sink_point (E.view err.old)) (sink_point (E.view err.new)) }
+    ensures wrote { (E.view err.old).told
+        → Wrote text.now (sink_point (E.view err.old)) (sink_point (E.view err.new)) }
     ensures frame { SinkKeeps (E.view err.old) (E.view err.new) }
 {
     match write_all(err, text.as_bytes()) {
@@ -44,30 +45,32 @@ fn put<E: Sink>(err: &mut E, text: &str)
     }
 }
 
-/// Writes a text about a resource. Says whether there was memory.
-pub fn say<E: Sink>(alloc: Global, err: &mut E, what: &str, kind: Kind, name: &str) -> bool
-    ensures wrote { MatchBool result ((E.view err.old).told → Wrote (about_lem what.now kind name.now) (sink_point (E.view err.old)) (sink_point (E.view err.new))) (err.new ≡ err.old) }
+/// Writes a text about a resource.
+pub fn say<E: Sink>(
+    alloc: Global,
+    err: &mut E,
+    what: &str,
+    kind: Kind,
+    name: &str,
+) -> Result<(), AllocError>
+    ensures wrote { MatchResult result (λ done. (E.view err.old).told
+        → Wrote (about_lem what.now kind name.now) (sink_point (E.view err.old))
+        (sink_point (E.view err.new))) (λ e. err.new ≡ err.old) }
     ensures frame { SinkKeeps (E.view err.old) (E.view err.new) }
 {
-    match about(alloc, what, kind, name) {
-        Ok(text) => {
-            put(err, text.as_str());
-            true
-        }
-        Err(_) => false,
-    }
+    let text = about(alloc, what, kind, name)?;
+    put(err, text.as_str());
+    Ok(())
 }
 
-/// Writes the text about a bad line. Says whether there was memory.
-pub fn say_bad<E: Sink>(alloc: Global, err: &mut E, number: u64) -> bool
-    ensures wrote { MatchBool result ((E.view err.old).told → Wrote (bad_text number) (sink_point (E.view err.old)) (sink_point (E.view err.new))) (err.new ≡ err.old) }
+/// Writes the text about a bad line.
+pub fn say_bad<E: Sink>(alloc: Global, err: &mut E, number: u64) -> Result<(), AllocError>
+    ensures wrote { MatchResult result (λ done. (E.view err.old).told
+        → Wrote (bad_text number) (sink_point (E.view err.old)) (sink_point (E.view err.new)))
+        (λ e. err.new ≡ err.old) }
     ensures frame { SinkKeeps (E.view err.old) (E.view err.new) }
 {
-    match about_bad(alloc, number) {
-        Ok(text) => {
-            put(err, text.as_str());
-            true
-        }
-        Err(_) => false,
-    }
+    let text = about_bad(alloc, number)?;
+    put(err, text.as_str());
+    Ok(())
 }

@@ -9,9 +9,9 @@ use Rattle.jl_tracker.proofs.effects.finish_line.Goals as goal
 pub returns-in-Register-clause-plays : goal.returns-in-Register-clause-plays
 returns-in-Register-clause-plays g c =
     let a = stage (g.F.Folder.view c.args.folder.now) (g.E.Sink.view c.args.err.now) in
-    subst (λ l. PlaysOrStops c.has_memory.result (effects_of (view_of l) c.args.step) a a) (sym c.in-Register.is) (none_ends a c.has_memory.result)
+    subst (λ l. PlaysOrStops c.counted.result (effects_of (view_of l) c.args.step) a a) (sym c.in-Register.is) (none_ends a c.counted.result)
 
 pub returns-in-Probe-clause-plays : goal.returns-in-Probe-clause-plays
 returns-in-Probe-clause-plays g c =
     let a = stage (g.F.Folder.view c.args.folder.now) (g.E.Sink.view c.args.err.now) in
-    subst (λ l. PlaysOrStops c.has_memory-in-Probe.result (effects_of (view_of l) c.args.step) a a) (sym c.in-Probe.is) (none_ends a c.has_memory-in-Probe.result)
+    subst (λ l. PlaysOrStops c.counted-in-Probe.result (effects_of (view_of l) c.args.step) a a) (sym c.in-Probe.is) (none_ends a c.counted-in-Probe.result)

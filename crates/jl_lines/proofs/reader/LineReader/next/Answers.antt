@@ -1,9 +1,16 @@
-use Rattle.std.proofs.Common.{◌∙◌, true≢false, ap, sym}
+use Rattle.std.proofs.Common.{◌∙◌, true≢false, ap, subst, sym}
 use Rattle.jl_lines.specs.Lines.{has_newline}
+use Rattle.jl_lines.specs.Readers.{IsReader}
 use Rattle.jl_lines.specs.Steps.{waiting}
 use Rattle.jl_lines.proofs.FollowLemmas.{step_follows}
-use Rattle.jl_lines.proofs.StepLemmas.{goes_on, goes_step}
+use Rattle.jl_lines.proofs.StepLemmas.{goes_on, goes_step, over_step}
 use Rattle.jl_lines.proofs.reader.LineReader.next.Goals as goal
+
+pub returns-then-self-clause-step : goal.returns-then-self-clause-step
+returns-then-self-clause-step g c = let is = c.self.view_is in over_step c.args.self.now _ (subst IsReader is c.self.invariant) (ap (λ v. v.ended) (sym is) ∙ c.if-self.true)
+
+pub returns-then-self-clause-lines : goal.returns-then-self-clause-lines
+returns-then-self-clause-lines g c = λ t knows. step_follows _ _ _ _ _ t knows (returns-then-self-clause-step g c)
 
 pub returns-in-Some-clause-step : goal.returns-in-Some-clause-step
 returns-in-Some-clause-step g c = goes_step _ _ _ _ _ _ c.in-Some.answer c.reads.invariant.told c.reads.invariant.goes c.in-Some.ensures.cases
