@@ -93,7 +93,8 @@ fn written<O: Sink>(
     ensures lines { (result.lines ≡ warning_lines memory.now.«module» warnings.now)
         ⊎ ((result.lines ≡ []) × (result.ended ≡ Ended.NoMemory)) }
     ensures calls { (old new : ℕ) → Counts computed old new → Calls result.ended old new }
-    ensures frame { SinkAnswers (result.ended ≡ Ended.WriteFault) (O.view out.old) (O.view out.new) }
+    ensures frame { SinkAnswers (result.ended ≡ Ended.WriteFault) (O.view out.old)
+        (O.view out.new) }
 {
     match lines_of(alloc, memory, warnings) {
         Ok(lines) => {
@@ -104,7 +105,8 @@ fn written<O: Sink>(
     }
 }
 
-/// Calls the function of this name of the module in a file, on the arguments that a text gives, with the cache below a location.
+/// Calls the function of this name of the module in a file, on the arguments that a text gives,
+/// with the cache below a location.
 pub fn call<L: Library, F: Folder, O: Sink, H: Host>(
     alloc: Global,
     lib: &mut L,
@@ -121,7 +123,8 @@ pub fn call<L: Library, F: Folder, O: Sink, H: Host>(
     ensures ended { CallEnded file.now location.now name.now args.now (stretch (meanings L.code L.line L.fault L.answer) (L.calls lib.old) (L.calls lib.new)
         (F.view folder.old) (F.view folder.new) (H.view host.old) (H.view host.new)) (O.view out.old) (O.view out.new) result.ended result.lines }
     // Where the module was not read nothing else was used.
-    ensures unused { (result.ended ≡ Ended.NoModule) ⊎ (result.ended ≡ Ended.FolderFault) → (lib.new ≡ lib.old) × (host.new ≡ host.old) }
+    ensures unused { (result.ended ≡ Ended.NoModule) ⊎ (result.ended ≡ Ended.FolderFault)
+        → (lib.new ≡ lib.old) × (host.new ≡ host.old) }
     ensures frame { FolderKeeps (F.view folder.old) (F.view folder.new) }
     ensures out { SinkAnswers (result.ended ≡ Ended.WriteFault) (O.view out.old) (O.view out.new) }
     ensures host { HostKeeps (H.view host.old) (H.view host.new) }

@@ -50,8 +50,11 @@ pub fn clear<F: Folder>(
 ) -> Ended
     requires target { IsTarget «module».now func.now key.now }
     ensures ends { EndsClearing result (F.view folder.old) (F.view folder.new) }
-    ensures clears { (F.view folder.old).told → Clears location.now «module».now func.now key.now result (F.view folder.old) (F.view folder.new) }
-    ensures frame { FolderAnswers (result ≡ Ended.FolderFault) (F.view folder.old) (F.view folder.new) }
+    ensures clears { (F.view folder.old).told
+        → Clears location.now «module».now func.now key.now result (F.view folder.old)
+        (F.view folder.new) }
+    ensures frame { FolderAnswers (result ≡ Ended.FolderFault) (F.view folder.old)
+        (F.view folder.new) }
 {
     match cleared(alloc, folder, location, module, func, key) {
         Clear::Cleared => Ended::Done,

@@ -35,7 +35,8 @@ fn report_line(alloc: Global, count: u64, bytes: u64) -> Result<Text, AllocError
 
 // Prints that line, unless memory wants for it.
 fn print_report<O: Sink>(alloc: Global, out: &mut O, count: u64, bytes: u64) -> Ended
-    ensures writes { WritesWarned (computed.Printed (report_of count bytes)) result (O.view out.old) (O.view out.new) }
+    ensures writes { WritesWarned (computed.Printed (report_of count bytes)) result (O.view out.old)
+        (O.view out.new) }
     ensures frame { SinkAnswers (result ≡ Ended.WriteFault) (O.view out.old) (O.view out.new) }
 {
     match report_line(alloc, count, bytes) {
@@ -58,11 +59,14 @@ pub fn reduce<F: Folder, O: Sink, H: Host>(
     // Names of entries go, and their folders, and nothing else, whatever others do.
     ensures called { (F.view folder.old).told → CallsFolder (IsProper (root_of location.now)) (IsProper (root_of location.now))
         (IsTaking (root_of location.now) (IsOfEntry (root_of location.now))) Anywhere Anywhere (F.view folder.old) (F.view folder.new) }
-    ensures lawful { (F.view folder.old).told → (answer : Answers) → CallsLawfully location.now answer AnyMove (F.view folder.old) (F.view folder.new) }
-    ensures frame { FolderAnswers (result ≡ Ended.FolderFault) (F.view folder.old) (F.view folder.new) }
+    ensures lawful { (F.view folder.old).told → (answer : Answers)
+        → CallsLawfully location.now answer AnyMove (F.view folder.old) (F.view folder.new) }
+    ensures frame { FolderAnswers (result ≡ Ended.FolderFault) (F.view folder.old)
+        (F.view folder.new) }
     ensures out { SinkAnswers (result ≡ Ended.WriteFault) (O.view out.old) (O.view out.new) }
     ensures host { HostKeeps (H.view host.old) (H.view host.new) }
-    ensures clock { (H.view host.old).told → (H.view host.new).moments ≡ moments_after (H.view host.old).moments }
+    ensures clock { (H.view host.old).told
+        → (H.view host.new).moments ≡ moments_after (H.view host.old).moments }
 {
     let moment = host.now();
     match reduce_size(alloc, folder, location, limits, moment) {

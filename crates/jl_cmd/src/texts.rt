@@ -34,7 +34,8 @@ fn error_line(alloc: Global, what: &str) -> Result<Text, AllocError>
 }
 
 pub fn task_line(alloc: Global, index: u64, error: TaskError) -> Result<Text, AllocError>
-    ensures { IfOk result (λ t. t ≡ error_line_lem (codes "task " ++ (decimal index ++ (codes ": " ++ name_of error)))) }
+    ensures { IfOk result (λ t. t ≡ error_line_lem
+        (codes "task " ++ (decimal index ++ (codes ": " ++ name_of error)))) }
 {
     let name = error.name();
     let what = format!(in alloc; "task {index}: {name}")?;

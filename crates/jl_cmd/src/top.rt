@@ -156,7 +156,8 @@ pub fn run_plain<L: Library, F: Folder, S: Source, O: Sink, E: Sink, H: Host>(
     warned.ended.status()
 }
 
-/// Runs the command that the words give, over a library, a folder, streams and a host. Answers the exit status.
+/// Runs the command that the words give, over a library, a folder, streams and a host. Answers the
+/// exit status.
 ///
 /// The words hold neither the program's own name nor a word that gives its token.
 pub fn run<L: Library, F: Folder, S: Source, O: Sink, E: Sink, H: Host>(

@@ -26,14 +26,16 @@ fn end_of(alloc: Global, tracked: Tracked) -> Ended
     }
 }
 
-/// Follows the tracker's lines on the input to its end. Its own texts go to the error stream at once, before the last one.
+/// Follows the tracker's lines on the input to its end. Its own texts go to the error stream at
+/// once, before the last one.
 pub fn follow<S: Source, F: Folder, E: Sink>(
     alloc: Global,
     input: &mut S,
     folder: &mut F,
     err: &mut E,
 ) -> Ended
-    ensures follows { Follows (S.view input.old) (S.view input.new) (F.view folder.old) (F.view folder.new) (E.view err.old) (E.view err.new) result }
+    ensures follows { Follows (S.view input.old) (S.view input.new) (F.view folder.old)
+        (F.view folder.new) (E.view err.old) (E.view err.new) result }
     ensures frame { FolderKeeps (F.view folder.old) (F.view folder.new) }
     ensures input { SourceAnswers (result ≡ Ended.ReadFault) (S.view input.old) (S.view input.new) }
     ensures err { SinkKeeps (E.view err.old) (E.view err.new) }

@@ -435,7 +435,14 @@ fn take_number(
 {
     let item = Value::Whole(number);
     let inner = Scope::Variable(&*variable, &item, &*scope);
-    take_member(alloc, &inner, member, condition, so_far.values, so_far.steps)
+    take_member(
+        alloc,
+        &inner,
+        member,
+        condition,
+        so_far.values,
+        so_far.steps,
+    )
 }
 
 #[cycle(evaluate)]

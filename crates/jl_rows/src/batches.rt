@@ -50,7 +50,8 @@ fn step(given: &[Value], place: usize) -> Result<Step, RowFault> {
     }
 }
 
-// The sizes that are asked for on the way, and what is left in the end: by a call a step, and by a replay.
+// The sizes that are asked for on the way, and what is left in the end: by a call a step, and by a
+// replay.
 fn sizes(alloc: Global, given: &[Value]) -> Told {
     let mut sizing = Auto::new();
     let mut steps = Vec::new(alloc);

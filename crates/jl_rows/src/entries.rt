@@ -109,7 +109,8 @@ fn add_path(
     Ok(())
 }
 
-// The folders of a location, a module, a function and an entry, and the files of a function and an entry.
+// The folders of a location, a module, a function and an entry, and the files of a function and an
+// entry.
 fn names(alloc: Global, given: &[Value]) -> Told {
     let location = given::path(alloc, given, 0)?;
     let module = given::text(alloc, given, 1)?;

@@ -1,4 +1,5 @@
-//! Runs a script of cases over the crates of values, the language, the words and the store's texts, and prints what comes.
+//! Runs a script of cases over the crates of values, the language, the words and the store's texts,
+//! and prints what comes.
 #![tactic(auto)]
 
 mod batches;

@@ -39,7 +39,8 @@ fn told_definition(alloc: Global, definition: &Definition) -> Told {
     Ok(told)
 }
 
-// How many members a list or a table has, a table's first key, and the variable of the list by `for` there.
+// How many members a list or a table has, a table's first key, and the variable of the list by
+// `for` there.
 fn told_members(alloc: Global, node: &Node) -> Told {
     match node {
         Node::Listed(members) => {

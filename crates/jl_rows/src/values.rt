@@ -59,7 +59,8 @@ fn numbers(alloc: Global, given: &[Value]) -> Told {
     Ok(format!(in alloc; "{} copy: {same}", shown.as_str())?)
 }
 
-// The canonical text of arguments and their key, and whether their copy and other arguments equal them.
+// The canonical text of arguments and their key, and whether their copy and other arguments equal
+// them.
 fn args(alloc: Global, given: &[Value]) -> Told {
     let args = given::args(alloc, given, 0)?;
     let text = canonical_table(alloc, args.value())?;

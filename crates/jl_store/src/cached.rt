@@ -419,8 +419,10 @@ fn answered<L: Library, F: Folder, H: Host>(
     }
 }
 
-/// Answers what the function of this name answers on these arguments: as an entry of the cache has it, or else by calling the
-/// function and keeping its value. The code's file is checked first, and what goes wrong with the cache is warned of.
+/// Answers what the function of this name answers on these arguments: as an entry of the cache has
+/// it, or else by calling the
+/// function and keeping its value. The code's file is checked first, and what goes wrong with the
+/// cache is warned of.
 pub fn call_cached<L: Library, F: Folder, H: Host>(
     alloc: Global,
     memory: &Memory,
@@ -446,7 +448,8 @@ pub fn call_cached<L: Library, F: Folder, H: Host>(
         (entry_in memory.now name.now (key_of args.now)) (F.view folder.old).token)
         (IsSound (root_of memory.now.location) L.answer)
         (IsSound (root_of memory.now.location) L.answer) (F.view folder.old) (F.view folder.new) }
-    // Each file that it puts in place has the text of this code, or that of its entry for one value, duration and moment; of these the answer and the clock tell.
+    // Each file that it puts in place has the text of this code, or that of its entry for one
+    // value, duration and moment; of these the answer and the clock tell.
     ensures puts { (c : List ℕ) (n : ℕ) → L.code (L.loaded lib.old) name.now ≡ Some c
         → L.line (L.loaded lib.old) name.now ≡ n → (F.view folder.old).told
         → PutsFiles result (asked memory.now name.now c n args.now) (H.view host.old)
@@ -461,7 +464,8 @@ pub fn call_cached<L: Library, F: Folder, H: Host>(
         → (F.view folder.old).told
         → ClearsOnlyAnothers result (entry_in memory.now name.now (key_of args.now)) c
         (F.view folder.old) (F.view folder.new) }
-    // A value or an error is the library's answer; of a value that was found this rests on the folder.
+    // A value or an error is the library's answer; of a value that was found this rests on the
+    // folder.
     ensures answer { (c : List ℕ) → L.code (L.loaded lib.old) name.now ≡ Some c
         → IsAnswer result (L.answer c args.now)
         (IsTrusted (root_of memory.now.location) L.answer (F.view folder.old) (F.view folder.new)) }
@@ -481,12 +485,14 @@ pub fn call_cached<L: Library, F: Folder, H: Host>(
         → L.line (L.loaded lib.old) name.now ≡ n
         → Warns (asked memory.now name.now c n args.now) warnings.old.items warnings.new.items
         (F.view folder.old) (F.view folder.new) }
-    // Each part was done or warned of: the code's file was right or put in place, a value was found or there was no output, and its entry was renewed or a new one put in place.
+    // Each part was done or warned of: the code's file was right or put in place, a value was found
+    // or there was no output, and its entry was renewed or a new one put in place.
     ensures done { (c : List ℕ) (n : ℕ) → L.code (L.loaded lib.old) name.now ≡ Some c
         → L.line (L.loaded lib.old) name.now ≡ n → (F.view folder.old).told
         → DoesOrWarns result (asked memory.now name.now c n args.now) warnings.old.items
         warnings.new.items (F.view folder.old) (F.view folder.new) }
-    // Where no other moved and no fault rose, it leaves the folder so: the code checked, and then the answer found or kept.
+    // Where no other moved and no fault rose, it leaves the folder so: the code checked, and then
+    // the answer found or kept.
     ensures alone { (F.view folder.old).told → (c : List ℕ) (n : ℕ)
         → L.code (L.loaded lib.old) name.now ≡ Some c → L.line (L.loaded lib.old) name.now ≡ n
         → IsLone (F.view folder.old).token (moved (F.view folder.old) (F.view folder.new))
@@ -500,7 +506,8 @@ pub fn call_cached<L: Library, F: Folder, H: Host>(
         → IsSound (root_of memory.now.location) L.answer (state (F.view folder.old))
         → (Rose (F.view folder.old).faults (F.view folder.new).faults → ⊥)
         → WarnsOfOthers warnings.old.items warnings.new.items }
-    // Each final name is put in place at most once: the code's file, then the last access or the entry's three files.
+    // Each final name is put in place at most once: the code's file, then the last access or the
+    // entry's three files.
     ensures once { (c : List ℕ) (n : ℕ) → L.code (L.loaded lib.old) name.now ≡ Some c
         → L.line (L.loaded lib.old) name.now ≡ n → (F.view folder.old).told
         → IfAnswered result (PutsInTurn (lasts_asked result (asked memory.now name.now c n args.now))

@@ -52,7 +52,9 @@ fn compare(code: &str, bytes: &[u8]) -> Held
 fn held<F: Folder>(alloc: Global, folder: &mut F, last: &Path, code: &str) -> Held
     ensures frame { FolderAnswers (result ≡ Held.Fault) (F.view folder.old) (F.view folder.new) }
     ensures waits { (F.view folder.old).told → Waits (F.view folder.old) (F.view folder.new) }
-    ensures holds { (F.view folder.old).told → Holds last.now code.now result (state (F.view folder.old)) (moved (F.view folder.old) (F.view folder.new)) }
+    ensures holds { (F.view folder.old).told
+        → Holds last.now code.now result (state (F.view folder.old))
+        (moved (F.view folder.old) (F.view folder.new)) }
 {
     match read_final(alloc, folder, last) {
         FileRead::Bytes(bytes) => compare(code, bytes.as_slice()),
@@ -65,7 +67,8 @@ fn held<F: Folder>(alloc: Global, folder: &mut F, last: &Path, code: &str) -> He
 fn code_files(alloc: Global, memory: &Memory, name: &str) -> Result<CodeFiles, AllocError>
     requires module_name { IsTrue (is_name memory.now.«module») }
     requires function_name { IsTrue (is_name name.now) }
-    ensures { IfOk result (AreFiles (root_of memory.now.location) memory.now.«module» name.now memory.now.token) }
+    ensures { IfOk result
+        (AreFiles (root_of memory.now.location) memory.now.«module» name.now memory.now.token) }
 {
     let module = memory.module.as_str();
     let folder = function_folder(alloc, &memory.location, module, name)?;
@@ -90,7 +93,8 @@ fn store<F: Folder>(folder: &mut F, files: &CodeFiles, bytes: &[u8], done: CodeC
     requires of_file { IsOfFile (F.view folder.old).token files.now.last files.now.temp bytes.now }
     requires done { done ≢ CodeCheck.StoreFault }
     requires unskipped { done ≢ CodeCheck.Skipped }
-    ensures stores { Stores files.now bytes.now (IsFor files.now.last files.now.temp) result (F.view folder.old) (F.view folder.new) }
+    ensures stores { Stores files.now bytes.now (IsFor files.now.last files.now.temp) result
+        (F.view folder.old) (F.view folder.new) }
     ensures answer { (p : Published) × (result ≡ check_of p done) }
     ensures skipped { (F.view folder.old).told → result ≡ CodeCheck.Skipped → (root : PathView) (x : Final) →
         IsTemp root x (F.view folder.old).token files.now.temp → IsFinal root x files.now.last → IsWhole x bytes.now →
@@ -106,10 +110,14 @@ fn store<F: Folder>(folder: &mut F, files: &CodeFiles, bytes: &[u8], done: CodeC
 // Makes the folders and publishes the code.
 fn write_new<F: Folder>(alloc: Global, folder: &mut F, files: &CodeFiles, bytes: &[u8]) -> CodeCheck
     requires { IsOfFile (F.view folder.old).token files.now.last files.now.temp bytes.now }
-    ensures stores { Stores files.now bytes.now (MovesFor files.now Held.Absent) result (F.view folder.old) (F.view folder.new) }
+    ensures stores { Stores files.now bytes.now (MovesFor files.now Held.Absent) result
+        (F.view folder.old) (F.view folder.new) }
     ensures comes { Comes result Held.Absent }
-    ensures skips { (F.view folder.old).told → SkipsFor result files.now bytes.now Anywhere (F.view folder.old) (F.view folder.new) }
-    ensures alone { (F.view folder.old).told → IsLone (F.view folder.old).token (moved (F.view folder.old) (F.view folder.new)) → LeavesAlone result files.now bytes.now (F.view folder.old) (F.view folder.new) }
+    ensures skips { (F.view folder.old).told
+        → SkipsFor result files.now bytes.now Anywhere (F.view folder.old) (F.view folder.new) }
+    ensures alone { (F.view folder.old).told
+        → IsLone (F.view folder.old).token (moved (F.view folder.old) (F.view folder.new))
+        → LeavesAlone result files.now bytes.now (F.view folder.old) (F.view folder.new) }
 {
     match make_folders(alloc, folder, &files.folder) {
         MadeFolders::Made => store(folder, files, bytes, CodeCheck::Written),
@@ -128,10 +136,15 @@ fn write_over<F: Folder>(
 ) -> CodeCheck
     requires of_file { IsOfFile (F.view folder.old).token files.now.last files.now.temp bytes.now }
     requires of_function { (root : PathView) × IsFunctionFolder root files.now.folder }
-    ensures stores { Stores files.now bytes.now (MovesFor files.now Held.Other) result (F.view folder.old) (F.view folder.new) }
+    ensures stores { Stores files.now bytes.now (MovesFor files.now Held.Other) result
+        (F.view folder.old) (F.view folder.new) }
     ensures comes { Comes result Held.Other }
-    ensures skips { (F.view folder.old).told → SkipsFor result files.now bytes.now (λ s. place_at s files.now.folder ≡ Some Place.Folder) (F.view folder.old) (F.view folder.new) }
-    ensures alone { (F.view folder.old).told → IsLone (F.view folder.old).token (moved (F.view folder.old) (F.view folder.new)) → LeavesAlone result files.now bytes.now (F.view folder.old) (F.view folder.new) }
+    ensures skips { (F.view folder.old).told
+        → SkipsFor result files.now bytes.now (λ s. place_at s files.now.folder ≡ Some Place.Folder)
+        (F.view folder.old) (F.view folder.new) }
+    ensures alone { (F.view folder.old).told
+        → IsLone (F.view folder.old).token (moved (F.view folder.old) (F.view folder.new))
+        → LeavesAlone result files.now bytes.now (F.view folder.old) (F.view folder.new) }
 {
     match clear_entries(alloc, folder, &files.folder) {
         Clear::Cleared => store(folder, files, bytes, CodeCheck::Cleared),
@@ -150,10 +163,16 @@ fn follow<F: Folder>(
 ) -> CodeCheck
     requires of_file { IsOfFile (F.view folder.old).token files.now.last files.now.temp bytes.now }
     requires of_function { (root : PathView) × IsFunctionFolder root files.now.folder }
-    ensures stores { Stores files.now bytes.now (MovesFor files.now held) result (F.view folder.old) (F.view folder.new) }
+    ensures stores { Stores files.now bytes.now (MovesFor files.now held) result (F.view folder.old)
+        (F.view folder.new) }
     ensures comes { Comes result held }
-    ensures skips { (F.view folder.old).told → SkipsFor result files.now bytes.now (λ s. held ≡ Held.Other → place_at s files.now.folder ≡ Some Place.Folder) (F.view folder.old) (F.view folder.new) }
-    ensures alone { (F.view folder.old).told → IsLone (F.view folder.old).token (moved (F.view folder.old) (F.view folder.new)) → LeavesAlone result files.now bytes.now (F.view folder.old) (F.view folder.new) }
+    ensures skips { (F.view folder.old).told
+        → SkipsFor result files.now bytes.now
+        (λ s. held ≡ Held.Other → place_at s files.now.folder ≡ Some Place.Folder)
+        (F.view folder.old) (F.view folder.new) }
+    ensures alone { (F.view folder.old).told
+        → IsLone (F.view folder.old).token (moved (F.view folder.old) (F.view folder.new))
+        → LeavesAlone result files.now bytes.now (F.view folder.old) (F.view folder.new) }
 {
     match held {
         Held::Same => CodeCheck::Same,
@@ -164,7 +183,8 @@ fn follow<F: Folder>(
     }
 }
 
-/// Checks that a function's entries are of this code. Where its file is absent it is published; where it holds another code, the
+/// Checks that a function's entries are of this code. Where its file is absent it is published;
+/// where it holds another code, the
 /// entries are taken away first.
 pub fn check_code<F: Folder>(
     alloc: Global,
@@ -180,7 +200,8 @@ pub fn check_code<F: Folder>(
     requires code { length code.now ≤ MOST_TEXT_BYTES }
     requires one_line { IsLine code.now }
     requires line { 1 ≤ line }
-    ensures frame { FolderAnswers ((result ≡ CodeCheck.LoadFault) ⊎ (result ≡ CodeCheck.StoreFault)) (F.view folder.old) (F.view folder.new) }
+    ensures frame { FolderAnswers ((result ≡ CodeCheck.LoadFault) ⊎ (result ≡ CodeCheck.StoreFault))
+        (F.view folder.old) (F.view folder.new) }
     ensures called { (F.view folder.old).told → Called (IsProper (root_of memory.now.location))
         (PutsThis (root_of memory.now.location) (code_path (root_of memory.now.location) memory.now.«module» name.now) (code_text code.now line))
         (IsChecking (function_path (root_of memory.now.location) memory.now.«module» name.now)

@@ -191,8 +191,10 @@ fn publish_open<F: Folder>(
     }
 }
 
-/// Publishes a final file: all bytes stand under the temporary name before the one rename that gives them the final name.
-/// Where another run takes a name or the folder away meanwhile it is skipped; after a fault the temporary name is taken away, if that can be.
+/// Publishes a final file: all bytes stand under the temporary name before the one rename that
+/// gives them the final name.
+/// Where another run takes a name or the folder away meanwhile it is skipped; after a fault the
+/// temporary name is taken away, if that can be.
 pub fn publish<F: Folder>(folder: &mut F, last: &Path, temp: &Path, bytes: &[u8]) -> Published
     requires { IsOfFile (F.view folder.old).token last.now temp.now bytes.now }
     ensures goes { (F.view folder.old).told → GoesOn (F.view folder.old) (F.view folder.new) }

@@ -38,8 +38,10 @@ fn as_folders(made: MadeDir) -> MadeFolders
 // Makes one folder, where none is there.
 fn make_one<F: Folder>(folder: &mut F, path: &Path) -> MadeFolders
     requires { is_fixed path.now ≡ false }
-    ensures frame { FolderAnswers (result ≡ MadeFolders.Fault) (F.view folder.old) (F.view folder.new) }
-    ensures moves { (F.view folder.old).told → Moves (IsMaking path.now) (F.view folder.old) (F.view folder.new) }
+    ensures frame { FolderAnswers (result ≡ MadeFolders.Fault) (F.view folder.old)
+        (F.view folder.new) }
+    ensures moves { (F.view folder.old).told
+        → Moves (IsMaking path.now) (F.view folder.old) (F.view folder.new) }
     ensures step { (F.view folder.old).told → (root : PathView) → IsStoreFolder root path.now → IsTidy root (state (F.view folder.old)) →
         AllSteps (IsProper root) (state (F.view folder.old)) (moved (F.view folder.old) (F.view folder.new)) →
         StepOr result path.now (F.view folder.old) (F.view folder.new) }
@@ -50,8 +52,10 @@ fn make_one<F: Folder>(folder: &mut F, path: &Path) -> MadeFolders
 
 // The same of a path that may be the current folder or the topmost, which are always there.
 fn make_step<F: Folder>(folder: &mut F, path: &Path) -> MadeFolders
-    ensures frame { FolderAnswers (result ≡ MadeFolders.Fault) (F.view folder.old) (F.view folder.new) }
-    ensures moves { (F.view folder.old).told → Moves (IsMaking path.now) (F.view folder.old) (F.view folder.new) }
+    ensures frame { FolderAnswers (result ≡ MadeFolders.Fault) (F.view folder.old)
+        (F.view folder.new) }
+    ensures moves { (F.view folder.old).told
+        → Moves (IsMaking path.now) (F.view folder.old) (F.view folder.new) }
     ensures step { (F.view folder.old).told → (root : PathView) → IsTidy root (state (F.view folder.old)) →
         AllSteps (IsProper root) (state (F.view folder.old)) (moved (F.view folder.old) (F.view folder.new)) →
         (is_fixed path.now ≡ false → IsStoreFolder root path.now) → StepOr result path.now (F.view folder.old) (F.view folder.new) }
@@ -88,8 +92,10 @@ fn prefix(alloc: Global, path: &Path, count: usize) -> Result<Path, AllocError>
 
 /// Makes a folder and those on the way to it, where they aren't there.
 pub(crate) fn make_folders<F: Folder>(alloc: Global, folder: &mut F, path: &Path) -> MadeFolders
-    ensures frame { FolderAnswers (result ≡ MadeFolders.Fault) (F.view folder.old) (F.view folder.new) }
-    ensures moves { (F.view folder.old).told → Moves (IsMaking path.now) (F.view folder.old) (F.view folder.new) }
+    ensures frame { FolderAnswers (result ≡ MadeFolders.Fault) (F.view folder.old)
+        (F.view folder.new) }
+    ensures moves { (F.view folder.old).told
+        → Moves (IsMaking path.now) (F.view folder.old) (F.view folder.new) }
     ensures folders { (F.view folder.old).told → (root : PathView) → IsFunctionFolder root path.now → IsTidy root (state (F.view folder.old)) →
         AllSteps (IsProper root) (state (F.view folder.old)) (moved (F.view folder.old) (F.view folder.new)) →
         FoldersOr result path.now (F.view folder.old) (F.view folder.new) }

@@ -381,8 +381,10 @@ pub(crate) fn keep_as<F: Folder>(
     keep_texts(alloc, memory, folder, name, key, &texts)
 }
 
-/// Keeps an answer: makes the entry's folder and publishes the output, the metadata and the last access; the first that is skipped or fails ends it.
-/// The duration and the moment are in microseconds. It knows no library: whether the value is the code's answer is the caller's part.
+/// Keeps an answer: makes the entry's folder and publishes the output, the metadata and the last
+/// access; the first that is skipped or fails ends it.
+/// The duration and the moment are in microseconds. It knows no library: whether the value is the
+/// code's answer is the caller's part.
 pub fn keep<F: Folder>(
     alloc: Global,
     memory: &Memory,
@@ -405,7 +407,8 @@ pub fn keep<F: Folder>(
     ensures once { (F.view folder.old).told
         → PutsInTurn (lasts_of (entry_in memory.now name.now (key_of args.now)))
         (F.view folder.old).token (moved (F.view folder.old) (F.view folder.new)) }
-    // The output is put in place before there is anything of the metadata, and the metadata before there is anything of the last access.
+    // The output is put in place before there is anything of the metadata, and the metadata before
+    // there is anything of the last access.
     ensures order { (F.view folder.old).told
         → InOrder (IsMakingEntry (entry_in memory.now name.now (key_of args.now)))
         (entry_in memory.now name.now (key_of args.now)) (F.view folder.old).token

@@ -1,4 +1,5 @@
-//! The cached call over a folder that others use too: its files, and how they are read and published.
+//! The cached call over a folder that others use too: its files, and how they are read and
+//! published.
 #![tactic(auto)]
 
 mod answer;

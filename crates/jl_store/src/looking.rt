@@ -176,7 +176,8 @@ pub(crate) fn look_for<F: Folder>(
     settle(found, text, key, warnings)
 }
 
-/// Looks for the answer of this code on these arguments: opens the entry's output and reads that one file to its end. Another
+/// Looks for the answer of this code on these arguments: opens the entry's output and reads that
+/// one file to its end. Another
 /// code's entry and damage are warned of, and so is a fault in opening or reading.
 pub fn look<F: Folder>(
     alloc: Global,
@@ -189,7 +190,8 @@ pub fn look<F: Folder>(
 ) -> Look
     requires module_name { IsTrue (is_name memory.now.«module») }
     requires function_name { IsTrue (is_name name.now) }
-    // A fault rose exactly where a load fault is warned of: want of memory is never told in its place.
+    // A fault rose exactly where a load fault is warned of: want of memory is never told in its
+    // place.
     ensures frame { FolderAnswers (warnings.new.items ≡ warnings.old.items ++ warning
         WarnKind.LoadFault name.now args.now ∷ []) (F.view folder.old) (F.view folder.new) }
     ensures waits { (F.view folder.old).told → Waits (F.view folder.old) (F.view folder.new) }

@@ -6,7 +6,8 @@ use jl_folder::{Path, Text, Token};
 use jl_value::Key;
 use std::alloc::{AllocError, Global};
 
-/// Where the answers of a module's functions are kept: the folder in which the cache stands, the module's name, and the token
+/// Where the answers of a module's functions are kept: the folder in which the cache stands, the
+/// module's name, and the token
 /// of the run.
 #[derive(Debug, Drop)]
 pub struct Memory {

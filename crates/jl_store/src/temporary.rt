@@ -33,7 +33,9 @@ pub(crate) enum Taken {
 fn make_file<F: Folder>(folder: &mut F, temp: &Path) -> TempFile
     ensures opens { TempOpens result (F.view folder.old) (F.view folder.new) }
     ensures frame { FolderTurns (result ≡ TempFile.Fault) (F.view folder.old) (F.view folder.new) }
-    ensures call { (F.view folder.old).told → Call (F.view folder.old) (F.view folder.new) (MakesFile temp.now (F.view folder.new).opens result) }
+    ensures call { (F.view folder.old).told
+        → Call (F.view folder.old) (F.view folder.new)
+        (MakesFile temp.now (F.view folder.new).opens result) }
 {
     match folder.create(temp) {
         Created::Made(number) => TempFile::File(number),
@@ -47,7 +49,8 @@ fn make_file<F: Folder>(folder: &mut F, temp: &Path) -> TempFile
 // Takes the name away from a file.
 fn take_away<F: Folder>(folder: &mut F, temp: &Path) -> Taken
     ensures frame { FolderAnswers (result ≡ Taken.Fault) (F.view folder.old) (F.view folder.new) }
-    ensures call { (F.view folder.old).told → Call (F.view folder.old) (F.view folder.new) (TakesAway temp.now result) }
+    ensures call { (F.view folder.old).told
+        → Call (F.view folder.old) (F.view folder.new) (TakesAway temp.now result) }
 {
     match folder.remove(temp) {
         Removed::Done => Taken::Away,
@@ -57,12 +60,16 @@ fn take_away<F: Folder>(folder: &mut F, temp: &Path) -> Taken
     }
 }
 
-// Makes the file where its name was taken, as by a dead run of the same token: the name is taken away once.
+// Makes the file where its name was taken, as by a dead run of the same token: the name is taken
+// away once.
 fn replace_file<F: Folder>(folder: &mut F, temp: &Path) -> TempFile
     ensures goes { (F.view folder.old).told → GoesOn (F.view folder.old) (F.view folder.new) }
     ensures opens { TempOpens result (F.view folder.old) (F.view folder.new) }
     ensures frame { FolderTurns (result ≡ TempFile.Fault) (F.view folder.old) (F.view folder.new) }
-    ensures called { (F.view folder.old).told → CallsOn temp.now (IsOnName temp.now) IsTidy (λ root. TempLeft temp.now result (F.view folder.new)) (F.view folder.old) (F.view folder.new) }
+    ensures called { (F.view folder.old).told
+        → CallsOn temp.now (IsOnName temp.now) IsTidy
+        (λ root. TempLeft temp.now result (F.view folder.new)) (F.view folder.old)
+        (F.view folder.new) }
     ensures named { (F.view folder.old).told → TempNamed temp.now result (F.view folder.new) }
     ensures skipped { (F.view folder.old).told → result ≡ TempFile.Skipped → is_folder (state (F.view folder.old)) temp.now ≡ false → has_parent (state (F.view folder.old)) temp.now ≡ true →
         TouchedByOther (F.view folder.old).token (UsesFile temp.now) (moved (F.view folder.old) (F.view folder.new)) }
@@ -81,7 +88,10 @@ pub(crate) fn create_temp<F: Folder>(folder: &mut F, temp: &Path) -> TempFile
     ensures goes { (F.view folder.old).told → GoesOn (F.view folder.old) (F.view folder.new) }
     ensures opens { TempOpens result (F.view folder.old) (F.view folder.new) }
     ensures frame { FolderTurns (result ≡ TempFile.Fault) (F.view folder.old) (F.view folder.new) }
-    ensures called { (F.view folder.old).told → CallsOn temp.now (IsOnName temp.now) IsTidy (λ root. TempLeft temp.now result (F.view folder.new)) (F.view folder.old) (F.view folder.new) }
+    ensures called { (F.view folder.old).told
+        → CallsOn temp.now (IsOnName temp.now) IsTidy
+        (λ root. TempLeft temp.now result (F.view folder.new)) (F.view folder.old)
+        (F.view folder.new) }
     ensures named { (F.view folder.old).told → TempNamed temp.now result (F.view folder.new) }
     ensures skipped { (F.view folder.old).told → result ≡ TempFile.Skipped → is_folder (state (F.view folder.old)) temp.now ≡ false → has_parent (state (F.view folder.old)) temp.now ≡ true →
         TouchedByOther (F.view folder.old).token (UsesFile temp.now) (moved (F.view folder.old) (F.view folder.new)) }
@@ -101,7 +111,9 @@ pub(crate) fn create_temp<F: Folder>(folder: &mut F, temp: &Path) -> TempFile
 pub(crate) fn abandon<F: Folder>(folder: &mut F, temp: &Path)
     ensures goes { (F.view folder.old).told → GoesOn (F.view folder.old) (F.view folder.new) }
     ensures frame { FolderKeeps (F.view folder.old) (F.view folder.new) }
-    ensures called { (F.view folder.old).told → CallsOn temp.now (IsOnName temp.now) (λ root. Anywhere) (λ root. Anywhere) (F.view folder.old) (F.view folder.new) }
+    ensures called { (F.view folder.old).told
+        → CallsOn temp.now (IsOnName temp.now) (λ root. Anywhere) (λ root. Anywhere)
+        (F.view folder.old) (F.view folder.new) }
 {
     let _ = take_away(folder, temp);
 }

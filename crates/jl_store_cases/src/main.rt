@@ -1,4 +1,5 @@
-//! Runs a script of cases over the folder in memory and the cached call's parts, and prints what comes.
+//! Runs a script of cases over the folder in memory and the cached call's parts, and prints what
+//! comes.
 #![tactic(auto)]
 
 mod store;

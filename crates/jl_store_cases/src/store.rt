@@ -1,4 +1,5 @@
-// Rows over what the cached call does with the files of the cache in the folder `c`, for the module `m`. Each is a run of its own.
+// Rows over what the cached call does with the files of the cache in the folder `c`, for the module
+// `m`. Each is a run of its own.
 ghost use Rattle.std.specs.Prelude.{◌≡◌, ◌≤◌, length, IfOk, IsTrue};
 ghost use Rattle.jl_text.specs.Texts.{is_name};
 ghost use Rattle.jl_text.specs.declared.limits.TheConstants.{MOST_TEXT_BYTES};

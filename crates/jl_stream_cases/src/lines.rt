@@ -34,7 +34,8 @@ fn spell_answers(alloc: Global, reader: LineReader, source: &mut MemSource, call
     Ok(said)
 }
 
-// What a reader of lines answers over a source of these pieces, and how many bytes the source has left.
+// What a reader of lines answers over a source of these pieces, and how many bytes the source has
+// left.
 fn read_pieces(alloc: Global, row: &Value, piece: u64) -> Told {
     let limit = number(row, "limit")?.unwrap_or(512);
     let calls = number(row, "calls")?.unwrap_or(4);
@@ -45,7 +46,8 @@ fn read_pieces(alloc: Global, row: &Value, piece: u64) -> Told {
     Ok(format!(in alloc; "{}, {left} bytes left", said.as_str())?)
 }
 
-// The same for each of the pieces in which a source gives its bytes. What is as that before isn't told.
+// The same for each of the pieces in which a source gives its bytes. What is as that before isn't
+// told.
 fn read_lines(alloc: Global, row: &Value) -> Told {
     let pieces = numbers(alloc, row, "pieces", 0)?;
     let mut told = String::new(alloc);

@@ -1,4 +1,5 @@
-//! Runs a script of cases over the streams and the host in memory, and lines, and prints what comes.
+//! Runs a script of cases over the streams and the host in memory, and lines, and prints what
+//! comes.
 #![tactic(auto)]
 
 mod lines;

@@ -23,7 +23,8 @@ use std::os::unix::fs::FileExt;
 use std::rt::Files;
 use std::{fs, io};
 
-/// The system's files below the current folder, and from `/` the topmost. It tells nothing of what stands there, since anyone may change it.
+/// The system's files below the current folder, and from `/` the topmost. It tells nothing of what
+/// stands there, since anyone may change it.
 #[derive(Drop)]
 pub struct RealFolder<R: Files<File = File> + AllocGlobal + Copy + Drop> {
     rt: R,
@@ -77,7 +78,8 @@ fn is_file<R: Files>(rt: &R, path: &str) -> io::Result<bool> {
 
 // Puts a file under a new number.
 fn enter(table: &mut Vec<Option<OpenFile>>, file: OpenFile) -> Result<FileNo, AllocError>
-    ensures ok { IfOk result (λ number. (opens_of table.old.items number.0 ≡ None) × (opens_of table.new.items ≡ put_open (opens_of table.old.items) number.0 file)) }
+    ensures ok { IfOk result (λ number. (opens_of table.old.items number.0 ≡ None)
+        × (opens_of table.new.items ≡ put_open (opens_of table.old.items) number.0 file)) }
     ensures err { OnErr result (table.new.items ≡ table.old.items) }
 {
     let number = FileNo(table.len() as u64);
@@ -92,7 +94,9 @@ fn open_new(
     file: File,
     made: bool,
 ) -> Result<FileNo, AllocError>
-    ensures ok { IfOk result (λ number. (opens_of table.old.items number.0 ≡ None) × (opens_of table.new.items ≡ put_open (opens_of table.old.items) number.0 (record { node = length table.old.items; made = made }))) }
+    ensures ok { IfOk result (λ number. (opens_of table.old.items number.0 ≡ None) × (opens_of
+        table.new.items ≡ put_open (opens_of table.old.items) number.0
+        (record { node = length table.old.items; made = made }))) }
     ensures err { OnErr result (table.new.items ≡ table.old.items) }
 {
     let node = table.len() as u64;
@@ -123,7 +127,8 @@ fn not_made(kind: ErrorKind) -> MadeDir
     ensures exists { kind ≡ AlreadyExists → result ≡ MadeDir.Exists }
     ensures no_parent { (kind ≡ NotFound) ⊎ (kind ≡ NotADirectory) → result ≡ MadeDir.NoParent }
     ensures memory { kind ≡ OutOfMemory → result ≡ MadeDir.NoMemory }
-    ensures failed { kind ≢ AlreadyExists → kind ≢ NotFound → kind ≢ NotADirectory → kind ≢ OutOfMemory → result ≡ MadeDir.Failed }
+    ensures failed { kind ≢ AlreadyExists → kind ≢ NotFound → kind ≢ NotADirectory
+        → kind ≢ OutOfMemory → result ≡ MadeDir.Failed }
 {
     match kind {
         ErrorKind::AlreadyExists => MadeDir::Exists,
@@ -149,7 +154,8 @@ fn not_created(kind: ErrorKind) -> Created
     ensures exists { kind ≡ AlreadyExists → result ≡ Created.Exists }
     ensures no_parent { (kind ≡ NotFound) ⊎ (kind ≡ NotADirectory) → result ≡ Created.NoParent }
     ensures memory { kind ≡ OutOfMemory → result ≡ Created.NoMemory }
-    ensures failed { kind ≢ AlreadyExists → kind ≢ NotFound → kind ≢ NotADirectory → kind ≢ OutOfMemory → result ≡ Created.Failed }
+    ensures failed { kind ≢ AlreadyExists → kind ≢ NotFound → kind ≢ NotADirectory
+        → kind ≢ OutOfMemory → result ≡ Created.Failed }
 {
     match kind {
         ErrorKind::AlreadyExists => Created::Exists,
@@ -216,11 +222,15 @@ fn rename_fault(kind: ErrorKind) -> Renamed
 
 // Why no file was renamed, where its own name still stands or doesn't.
 fn not_renamed(kind: ErrorKind, stands: bool) -> Renamed
-    ensures blocked { (kind ≡ IsADirectory) ⊎ (kind ≡ DirectoryNotEmpty) → result ≡ Renamed.Blocked }
-    ensures no_parent { (kind ≡ NotFound) ⊎ (kind ≡ NotADirectory) → stands ≡ true → result ≡ Renamed.NoParent }
-    ensures no_file { (kind ≡ NotFound) ⊎ (kind ≡ NotADirectory) → stands ≡ false → result ≡ Renamed.NoFile }
+    ensures blocked { (kind ≡ IsADirectory) ⊎ (kind ≡ DirectoryNotEmpty)
+        → result ≡ Renamed.Blocked }
+    ensures no_parent { (kind ≡ NotFound) ⊎ (kind ≡ NotADirectory) → stands ≡ true
+        → result ≡ Renamed.NoParent }
+    ensures no_file { (kind ≡ NotFound) ⊎ (kind ≡ NotADirectory) → stands ≡ false
+        → result ≡ Renamed.NoFile }
     ensures memory { kind ≡ OutOfMemory → result ≡ Renamed.NoMemory }
-    ensures failed { kind ≢ IsADirectory → kind ≢ DirectoryNotEmpty → kind ≢ NotFound → kind ≢ NotADirectory → kind ≢ OutOfMemory → result ≡ Renamed.Failed }
+    ensures failed { kind ≢ IsADirectory → kind ≢ DirectoryNotEmpty → kind ≢ NotFound
+        → kind ≢ NotADirectory → kind ≢ OutOfMemory → result ≡ Renamed.Failed }
 {
     match kind {
         ErrorKind::IsADirectory | ErrorKind::DirectoryNotEmpty => Renamed::Blocked,
@@ -262,9 +272,11 @@ fn rename<R: Files + AllocGlobal>(rt: &R, from: &Path, to: &Path) -> Renamed {
 
 // Why no file was removed.
 fn not_removed(kind: ErrorKind) -> Removed
-    ensures no_file { (kind ≡ NotFound) ⊎ ((kind ≡ NotADirectory) ⊎ (kind ≡ IsADirectory)) → result ≡ Removed.NoFile }
+    ensures no_file { (kind ≡ NotFound) ⊎ ((kind ≡ NotADirectory) ⊎ (kind ≡ IsADirectory))
+        → result ≡ Removed.NoFile }
     ensures memory { kind ≡ OutOfMemory → result ≡ Removed.NoMemory }
-    ensures failed { kind ≢ NotFound → kind ≢ NotADirectory → kind ≢ IsADirectory → kind ≢ OutOfMemory → result ≡ Removed.Failed }
+    ensures failed { kind ≢ NotFound → kind ≢ NotADirectory → kind ≢ IsADirectory
+        → kind ≢ OutOfMemory → result ≡ Removed.Failed }
 {
     match kind {
         ErrorKind::NotFound | ErrorKind::NotADirectory | ErrorKind::IsADirectory => Removed::NoFile,
@@ -286,9 +298,11 @@ fn remove<R: Files + AllocGlobal>(rt: &R, path: &Path) -> Removed {
 // Why no folder was removed.
 fn not_removed_dir(kind: ErrorKind) -> RemovedDir
     ensures no_dir { (kind ≡ NotFound) ⊎ (kind ≡ NotADirectory) → result ≡ RemovedDir.NoDir }
-    ensures not_empty { (kind ≡ DirectoryNotEmpty) ⊎ (kind ≡ AlreadyExists) → result ≡ RemovedDir.NotEmpty }
+    ensures not_empty { (kind ≡ DirectoryNotEmpty) ⊎ (kind ≡ AlreadyExists)
+        → result ≡ RemovedDir.NotEmpty }
     ensures memory { kind ≡ OutOfMemory → result ≡ RemovedDir.NoMemory }
-    ensures failed { kind ≢ NotFound → kind ≢ NotADirectory → kind ≢ DirectoryNotEmpty → kind ≢ AlreadyExists → kind ≢ OutOfMemory → result ≡ RemovedDir.Failed }
+    ensures failed { kind ≢ NotFound → kind ≢ NotADirectory → kind ≢ DirectoryNotEmpty
+        → kind ≢ AlreadyExists → kind ≢ OutOfMemory → result ≡ RemovedDir.Failed }
 {
     match kind {
         ErrorKind::NotFound | ErrorKind::NotADirectory => RemovedDir::NoDir,
@@ -313,7 +327,8 @@ fn remove_dir<R: Files + AllocGlobal>(rt: &R, path: &Path) -> RemovedDir
     }
 }
 
-// The file of this name, if it is one. To open a pipe would wait, and to open a folder succeeds, so both are tested.
+// The file of this name, if it is one. To open a pipe would wait, and to open a folder succeeds, so
+// both are tested.
 fn file_of<R: Files<File = File>>(rt: &R, path: &str) -> io::Result<Option<File>> {
     if !fs::metadata(rt, path)?.is_file() {
         return Ok(None);
@@ -330,7 +345,8 @@ fn not_opened(kind: ErrorKind) -> Opened
     ensures opens { (opens : Opens) → OpenedOpens result opens opens }
     ensures no_file { (kind ≡ NotFound) ⊎ (kind ≡ NotADirectory) → result ≡ Opened.NoFile }
     ensures memory { kind ≡ OutOfMemory → result ≡ Opened.NoMemory }
-    ensures failed { kind ≢ NotFound → kind ≢ NotADirectory → kind ≢ OutOfMemory → result ≡ Opened.Failed }
+    ensures failed { kind ≢ NotFound → kind ≢ NotADirectory → kind ≢ OutOfMemory
+        → result ≡ Opened.Failed }
 {
     match kind {
         ErrorKind::NotFound | ErrorKind::NotADirectory => Opened::NoFile,
@@ -382,7 +398,8 @@ fn read_at(file: Option<&File>, at: u64, buf: &mut [u8]) -> ReadAt
 fn not_sized(kind: ErrorKind) -> SizeOf
     ensures no_file { (kind ≡ NotFound) ⊎ (kind ≡ NotADirectory) → result ≡ SizeOf.NoFile }
     ensures memory { kind ≡ OutOfMemory → result ≡ SizeOf.NoMemory }
-    ensures failed { kind ≢ NotFound → kind ≢ NotADirectory → kind ≢ OutOfMemory → result ≡ SizeOf.Failed }
+    ensures failed { kind ≢ NotFound → kind ≢ NotADirectory → kind ≢ OutOfMemory
+        → result ≡ SizeOf.Failed }
 {
     match kind {
         ErrorKind::NotFound | ErrorKind::NotADirectory => SizeOf::NoFile,
@@ -417,7 +434,8 @@ fn kind_of(kind: io::Result<fs::FileType>) -> io::Result<Option<bool>>
 fn part_of(alloc: Global, name: &str) -> io::Result<Text>
     ensures part { IfOk result (λ part. IsTrue (is_part part)) }
     ensures same { IfOk result (λ part. part ≡ name.now) }
-    ensures no_part { IfErr result (λ e. (is_part name.now ≡ false) ⊎ (error_kind e ≡ OutOfMemory)) }
+    ensures no_part { IfErr result
+        (λ e. (is_part name.now ≡ false) ⊎ (error_kind e ≡ OutOfMemory)) }
 {
     if !is_part(name) {
         return Err(io::Error::from(ErrorKind::InvalidData));
@@ -428,8 +446,10 @@ fn part_of(alloc: Global, name: &str) -> io::Result<Text>
 // Adds a name to the others.
 fn push_name(names: &mut Vec<Name>, part: Text, folder: bool) -> Result<(), AllocError>
     requires { IsTrue (is_part part) }
-    ensures parts { All (λ n. IsTrue (is_part n.part)) names.old.items → IfOk result (λ _. All (λ n. IsTrue (is_part n.part)) names.new.items) }
-    ensures pushed { OnOk result (names.new.items ≡ names.old.items ++ record { part = part; folder = folder } ∷ []) }
+    ensures parts { All (λ n. IsTrue (is_part n.part)) names.old.items
+        → IfOk result (λ _. All (λ n. IsTrue (is_part n.part)) names.new.items) }
+    ensures pushed { OnOk result
+        (names.new.items ≡ names.old.items ++ record { part = part; folder = folder } ∷ []) }
 {
     names.push(Name { part, folder })?;
     Ok(())
@@ -437,7 +457,8 @@ fn push_name(names: &mut Vec<Name>, part: Text, folder: bool) -> Result<(), Allo
 
 // The names in a folder: nothing, where it is no folder.
 fn names_in<R: Files + AllocGlobal + Copy>(rt: R, path: &str) -> io::Result<Option<Vec<Name>>>
-    ensures { IfOk result (λ names. MatchOption names (Unit {0}) (λ v. All (λ n. IsTrue (is_part n.part)) v.items)) }
+    ensures { IfOk result
+        (λ names. MatchOption names (Unit {0}) (λ v. All (λ n. IsTrue (is_part n.part)) v.items)) }
 {
     let entries = match fs::read_dir(&rt, path) {
         Ok(entries) => entries,
@@ -484,7 +505,15 @@ impl<R: Files<File = File> + AllocGlobal + Copy + Drop> Folder for RealFolder<R>
     ghost use Rattle.std.specs.Prelude.{[]};
     ghost use Rattle.jl_folder.specs.State.{bare_state};
 
-    ghost view = { λ f. record { told = ⊥; token = f.token; history = record { start = bare_state; trace = [] }; opens = opens_of f.table.items; faults = f.faults } };
+    ghost view = { λ f. record {
+      told = ⊥;
+      token = f.token;
+      history =
+          record { start = bare_state; trace = [] };
+      opens = opens_of f.table.items;
+      faults =
+          f.faults;
+    } };
 
     ghost lawful = { λ f told. absurd told };
 

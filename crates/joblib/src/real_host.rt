@@ -26,7 +26,8 @@ pub struct RealHost<R: Clock + Drop> {
 pub fn count_processors(count: io::Result<NonZeroUsize>) -> u32
     ensures least { 1 ≤ result }
     ensures most { result ≤ MOST_PROCESSORS }
-    ensures exact { MatchResult count (λ n. result ≡ min (non_zero_usize_get n) MOST_PROCESSORS) (λ e. result ≡ 1) }
+    ensures exact { MatchResult count (λ n. result ≡ min (non_zero_usize_get n) MOST_PROCESSORS)
+        (λ e. result ≡ 1) }
 {
     match count {
         Ok(count) => count.get().min(MOST_PROCESSORS) as u32,
@@ -78,7 +79,8 @@ impl<R: Clock + Drop> RealHost<R> {
 }
 
 impl<R: Clock + Drop> Host for RealHost<R> {
-    ghost view = { λ h. record { told = ⊥; token = h.token; processors = h.processors; moments = [] } };
+    ghost view = { λ h.
+        record { told = ⊥; token = h.token; processors = h.processors; moments = [] } };
 
     fn now(&mut self) -> u64 {
         let moment = moment_of(&self.rt);

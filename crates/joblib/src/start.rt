@@ -126,7 +126,8 @@ where
     ensures token { IfOk result (λ r. r.token ≡ token) }
     ensures words { IfOk result (λ r. RunsOwn (map string_bytes words.now) processors
         (PutsWhole r.status (O.view out.old) (O.view out.new) (E.view err.old) (E.view err.new)) r.status) }
-    ensures tells { IfOk result (λ r. Tells r.status (O.view out.old) (O.view out.new) (E.view err.old) (E.view err.new)) }
+    ensures tells { IfOk result
+        (λ r. Tells r.status (O.view out.old) (O.view out.new) (E.view err.old) (E.view err.new)) }
     ensures not_run { IfErr result (λ e. (out.new ≡ out.old) × (err.new ≡ err.old)) }
 {
     let twin = token.copy()?;
@@ -165,7 +166,8 @@ where
     requires most { processors ≤ MOST_PROCESSORS }
     ensures words { IfOk result (λ r. RunsWords (map string_bytes words.now) processors r.token
         (PutsWhole r.status (O.view out.old) (O.view out.new) (E.view err.old) (E.view err.new)) r.status) }
-    ensures tells { IfOk result (λ r. Tells r.status (O.view out.old) (O.view out.new) (E.view err.old) (E.view err.new)) }
+    ensures tells { IfOk result
+        (λ r. Tells r.status (O.view out.old) (O.view out.new) (E.view err.old) (E.view err.new)) }
     ensures not_run { IfErr result (λ e. (out.new ≡ out.old) × (err.new ≡ err.old)) }
 {
     let given = first_token(&rt, words)?;

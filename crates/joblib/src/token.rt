@@ -10,7 +10,8 @@ use std::alloc::{AllocError, Global};
 
 // What stands behind the flag, where the word begins so.
 fn behind_flag(word: &str) -> Option<&str>
-    ensures { MatchOption result ((rest : List ℕ) → word.now ≡ token_flag ++ rest → ⊥) (λ rest. word.now ≡ token_flag ++ rest.now) }
+    ensures { MatchOption result ((rest : List ℕ) → word.now ≡ token_flag ++ rest → ⊥)
+        (λ rest. word.now ≡ token_flag ++ rest.now) }
 {
     word.strip_prefix("--token=")
 }
@@ -39,7 +40,8 @@ pub fn given_token(alloc: Global, word: &str) -> Result<Option<Token>, AllocErro
 /// The words without the first, where that gave the token.
 pub fn own_words(words: &[String], given: bool) -> &[String]
     ensures same { result.now ≡ cond given (drop 1 words.now) words.now }
-    ensures bytes { (token : Option (List ℕ)) → given ≡ is_some token → map string_bytes result.now ≡ own_of token (map string_bytes words.now) }
+    ensures bytes { (token : Option (List ℕ)) → given ≡ is_some token
+        → map string_bytes result.now ≡ own_of token (map string_bytes words.now) }
 {
     match words {
         [_, rest @ ..] => { if given { rest } else { words } }
@@ -61,7 +63,8 @@ fn token_at(alloc: Global, moment: u64) -> Result<Token, AllocError>
 
 // The variable's token, or else the moment's.
 fn unasked_token(alloc: Global, variable: Option<&str>, moment: u64) -> Result<Token, AllocError>
-    ensures { IfOk result (λ t. t ≡ variable_or (moment_token moment) (option_map (λ v. v.now) variable.entry)) }
+    ensures { IfOk result
+        (λ t. t ≡ variable_or (moment_token moment) (option_map (λ v. v.now) variable.entry)) }
 {
     if let Some(text) = variable {
         if text.len() <= 36 {
@@ -73,14 +76,16 @@ fn unasked_token(alloc: Global, variable: Option<&str>, moment: u64) -> Result<T
     token_at(alloc, moment)
 }
 
-/// The token that was given, else the variable's where that is a token of at most 36 characters, else `t` and the moment in hexadecimal.
+/// The token that was given, else the variable's where that is a token of at most 36 characters,
+/// else `t` and the moment in hexadecimal.
 pub fn choose_token(
     alloc: Global,
     given: Option<Token>,
     variable: Option<&str>,
     moment: u64,
 ) -> Result<Token, AllocError>
-    ensures { IfOk result (λ t. t ≡ token_of given (option_map (λ v. v.now) variable.entry) moment) }
+    ensures { IfOk result
+        (λ t. t ≡ token_of given (option_map (λ v. v.now) variable.entry) moment) }
 {
     match given {
         Some(token) => Ok(token),
