@@ -1,7 +1,7 @@
 // What the functions that every module has make of values.
 ghost use Rattle.std.specs.Prelude.{◌≡◌, ◌+ℤ◌, [], IfOk, Ok, true, false, pos, count_by};
 ghost use lib.IntN.{◌-ℤ◌};
-ghost use Rattle.jl_value.specs.Proper.{IsWhole};
+ghost use Rattle.jl_value.specs.Proper.{FitsI64};
 ghost use Rattle.jl_value.specs.Form.{tree_of, trees_of};
 ghost use Rattle.jl_value.specs.Tree.{whole, numbers as numbers_tree, items_of};
 ghost use Rattle.jl_builtins.specs.Arithmetic.{whole_within};
@@ -9,7 +9,7 @@ ghost use Rattle.jl_operands.specs.Steps.{counted, operated};
 ghost use Rattle.jl_operands.specs.Lists.{wholes as wholes_of};
 ghost use Rattle.jl_operands.specs.Operands.{list_of_wholes, tree_of_operand};
 ghost use Rattle.jl_builtins.specs.Calls.{begins_character as begins_character_of, length_of, numbers_sum as numbers_sum_of, IsNumber, items_sum as items_sum_of, sum_of_all, better as better_of, numbers_best as numbers_best_of, items_best as items_best_of, first_best, first_number, best_of, array_behind, array_of as array_value, is_whole_tree, are_whole as are_whole_of, items_from, members_to, range_of, call_value as value_of_call};
-ghost use Rattle.jl_operands.specs.Outcomes.{Makes, Runs};
+ghost use Rattle.jl_operands.specs.Outcomes.{Makes, Evaluates};
 
 use jl_lexer::Function;
 use jl_operands::{CallFault, Counted, Operand, Steps, count_copy, count_value, length_weight};
@@ -203,7 +203,7 @@ fn numbers_of(alloc: Global, items: &[Value]) -> Result<Value, CallFault>
 
 // The array of a list's numbers, which is counted before it is made.
 fn array_of(alloc: Global, items: &[Value], steps: Steps) -> Result<Counted, CallFault>
-    ensures { Runs result (operated steps (array_behind [] (items_of (trees_of items.now)))) }
+    ensures { Evaluates result (operated steps (array_behind [] (items_of (trees_of items.now)))) }
 {
     if !are_whole(items) {
         return Err(CallFault::Task(TaskError::BadKind));
@@ -218,7 +218,7 @@ fn array_of(alloc: Global, items: &[Value], steps: Steps) -> Result<Counted, Cal
 }
 
 fn array(alloc: Global, value: &Value, steps: Steps) -> Result<Counted, CallFault>
-    ensures { Runs result (operated steps (array_value (tree_of value.now))) }
+    ensures { Evaluates result (operated steps (array_value (tree_of value.now))) }
 {
     match value {
         Value::List(list) => array_of(alloc, list.as_slice(), steps),
@@ -229,7 +229,7 @@ fn array(alloc: Global, value: &Value, steps: Steps) -> Result<Counted, CallFaul
 
 // The whole numbers from one on, so many.
 fn numbers_from(alloc: Global, first: i64, count: u64) -> Result<Vec<i64>, AllocError>
-    requires { IsWhole (first +ℤ pos count) }
+    requires { FitsI64 (first +ℤ pos count) }
     ensures { IfOk result (λ v. items_of (wholes_of v.items) ≡ items_from first count) }
 {
     let mut members = Vec::with_capacity(alloc, count as usize)?;
@@ -255,7 +255,7 @@ fn members_between(first: i64, end: i64) -> u64
 
 // The list of the whole numbers from one to below another, which is counted before it is made.
 fn range(alloc: Global, first: i64, end: i64, steps: Steps) -> Result<Counted, CallFault>
-    ensures { Runs result (operated steps (range_of (whole first) (whole end))) }
+    ensures { Evaluates result (operated steps (range_of (whole first) (whole end))) }
 {
     let members = members_between(first, end);
     match steps.checked_add(members.saturating_add(1)) {
@@ -268,7 +268,7 @@ fn range(alloc: Global, first: i64, end: i64, steps: Steps) -> Result<Counted, C
 }
 
 fn range_to(alloc: Global, end: &Value, steps: Steps) -> Result<Counted, CallFault>
-    ensures { Runs result (operated steps (range_of (whole (pos 0)) (tree_of end.now))) }
+    ensures { Evaluates result (operated steps (range_of (whole (pos 0)) (tree_of end.now))) }
 {
     match end {
         Value::Whole(end) => range(alloc, 0, *end, steps),
@@ -282,7 +282,7 @@ fn span_values(
     end: &Value,
     steps: Steps,
 ) -> Result<Counted, CallFault>
-    ensures { Runs result (operated steps (range_of (tree_of first.now) (tree_of end.now))) }
+    ensures { Evaluates result (operated steps (range_of (tree_of first.now) (tree_of end.now))) }
 {
     match first {
         Value::Whole(first) => match end {
@@ -300,7 +300,7 @@ pub fn span(
     end: &Operand,
     steps: Steps,
 ) -> Result<Counted, CallFault>
-    ensures { Runs result
+    ensures { Evaluates result
         (operated steps (range_of (tree_of_operand first.now) (tree_of_operand end.now))) }
 {
     match first {
@@ -318,7 +318,7 @@ fn call_value(
     member: &Value,
     steps: Steps,
 ) -> Result<Counted, CallFault>
-    ensures { Runs result (operated steps (value_of_call function (tree_of member.now))) }
+    ensures { Evaluates result (operated steps (value_of_call function (tree_of member.now))) }
 {
     match function {
         Function::Len => count_value(len(member)?, steps),
@@ -350,7 +350,7 @@ fn wholes_best(least: bool, numbers: &[i64]) -> Result<Value, CallFault>
 
 // The array of whole numbers, which is counted before it is made.
 fn wholes_array(alloc: Global, numbers: &[i64], steps: Steps) -> Result<Counted, CallFault>
-    ensures { Runs result (counted steps (numbers_tree numbers.now)) }
+    ensures { Evaluates result (counted steps (numbers_tree numbers.now)) }
 {
     match steps.checked_add(length_weight(numbers.len())) {
         Some(steps) => {
@@ -371,7 +371,7 @@ fn call_wholes(
     numbers: &[i64],
     steps: Steps,
 ) -> Result<Counted, CallFault>
-    ensures { Runs result (operated steps (value_of_call function (list_of_wholes numbers.now))) }
+    ensures { Evaluates result (operated steps (value_of_call function (list_of_wholes numbers.now))) }
 {
     match function {
         Function::Len => count_value(wholes_len(numbers)?, steps),
@@ -390,7 +390,7 @@ pub fn call(
     member: &Operand,
     steps: Steps,
 ) -> Result<Counted, CallFault>
-    ensures { Runs result (operated steps (value_of_call function (tree_of_operand member.now))) }
+    ensures { Evaluates result (operated steps (value_of_call function (tree_of_operand member.now))) }
 {
     match member {
         Operand::Plain(member) => call_value(alloc, function, member, steps),

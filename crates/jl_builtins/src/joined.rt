@@ -7,7 +7,7 @@ ghost use Rattle.jl_operands.specs.Operands.{list_of_wholes, tree_of_operand};
 ghost use Rattle.jl_builtins.specs.Joined.{trees_listed};
 ghost use Rattle.jl_builtins.specs.Operations.{sum_of};
 ghost use Rattle.jl_operands.specs.Steps.{counted, operated, items_weight as items_weight_of};
-ghost use Rattle.jl_operands.specs.Outcomes.{Runs};
+ghost use Rattle.jl_operands.specs.Outcomes.{Evaluates};
 
 use jl_operands::{CallFault, Counted, Operand, Steps, items_weight, wholes_onto};
 use jl_value::{List, TaskError, Value};
@@ -89,7 +89,7 @@ fn listed_weight(members: Listed) -> u64
 
 // Two lists as one, which is counted before it is made.
 fn add_lists(alloc: Global, left: Listed, right: Listed, steps: Steps) -> Result<Counted, CallFault>
-    ensures { Runs result
+    ensures { Evaluates result
         (counted steps (list (items_of (trees_listed left.entry ++ trees_listed right.entry)))) }
 {
     let both = listed_weight(left).saturating_add(listed_weight(right));
@@ -109,7 +109,7 @@ pub(crate) fn add_members(
     right: &List,
     steps: Steps,
 ) -> Result<Counted, CallFault>
-    ensures { Runs result (counted steps (list (items_of (left.now ++ right.now)))) }
+    ensures { Evaluates result (counted steps (list (items_of (left.now ++ right.now)))) }
 {
     let (left, right) = (left.as_slice(), right.as_slice());
     add_lists(alloc, Listed::Values(left), Listed::Values(right), steps)
@@ -122,7 +122,7 @@ pub(crate) fn add_wholes(
     right: &[i64],
     steps: Steps,
 ) -> Result<Counted, CallFault>
-    ensures { Runs result
+    ensures { Evaluates result
         (operated steps (sum_of (list_of_wholes left.now) (list_of_wholes right.now))) }
 {
     add_lists(alloc, Listed::Wholes(left), Listed::Wholes(right), steps)
@@ -135,7 +135,7 @@ pub(crate) fn add_behind(
     right: &[i64],
     steps: Steps,
 ) -> Result<Counted, CallFault>
-    ensures { Runs result
+    ensures { Evaluates result
         (operated steps (sum_of (tree_of left.now) (list_of_wholes right.now))) }
 {
     match left {
@@ -158,7 +158,7 @@ pub(crate) fn add_before(
     right: &Value,
     steps: Steps,
 ) -> Result<Counted, CallFault>
-    ensures { Runs result
+    ensures { Evaluates result
         (operated steps (sum_of (list_of_wholes left.now) (tree_of right.now))) }
 {
     match right {

@@ -7,7 +7,7 @@ ghost use Rattle.jl_builtins.specs.Operations.{sum_of, compared as compared_of, 
 ghost use Rattle.jl_operands.specs.Lists.{wholes as wholes_of};
 ghost use Rattle.jl_operands.specs.Operands.{list_of_wholes, tree_of_operand};
 ghost use Rattle.jl_operands.specs.Steps.{counted, operated};
-ghost use Rattle.jl_operands.specs.Outcomes.{Makes, Runs};
+ghost use Rattle.jl_operands.specs.Outcomes.{Makes, Evaluates};
 
 use crate::arithmetic::{difference, negative, product, quotient, remainder, whole_sum};
 use crate::joined::{add_before, add_behind, add_members, add_wholes};
@@ -37,7 +37,7 @@ fn join_arrays(alloc: Global, left: &Numbers, right: &Numbers) -> Result<Numbers
 
 // Two texts as one, which is counted before it is made.
 fn add_texts(alloc: Global, left: &Text, right: &Text, steps: Steps) -> Result<Counted, CallFault>
-    ensures { Runs result (counted steps (text (left.now ++ right.now))) }
+    ensures { Evaluates result (counted steps (text (left.now ++ right.now))) }
 {
     let more = length_weight(left.as_str().len()).saturating_add(right.as_str().len() as u64);
     match steps.checked_add(more) {
@@ -56,7 +56,7 @@ fn add_arrays(
     right: &Numbers,
     steps: Steps,
 ) -> Result<Counted, CallFault>
-    ensures { Runs result (counted steps (numbers (left.now ++ right.now))) }
+    ensures { Evaluates result (counted steps (numbers (left.now ++ right.now))) }
 {
     let more = length_weight(left.as_slice().len()).saturating_add(right.as_slice().len() as u64);
     match steps.checked_add(more) {
@@ -75,7 +75,7 @@ fn add_values(
     right: &Value,
     steps: Steps,
 ) -> Result<Counted, CallFault>
-    ensures { Runs result (operated steps (sum_of (tree_of left.now) (tree_of right.now))) }
+    ensures { Evaluates result (operated steps (sum_of (tree_of left.now) (tree_of right.now))) }
 {
     match left {
         Value::Whole(left) => match right {
@@ -100,7 +100,7 @@ fn add_values(
 
 /// The sum of two whole numbers, or two texts, lists or arrays joined.
 fn add(alloc: Global, left: &Operand, right: &Operand, steps: Steps) -> Result<Counted, CallFault>
-    ensures { Runs result
+    ensures { Evaluates result
         (operated steps (sum_of (tree_of_operand left.now) (tree_of_operand right.now))) }
 {
     match left {
@@ -244,7 +244,7 @@ pub fn operate(
     right: &Operand,
     steps: Steps,
 ) -> Result<Counted, CallFault>
-    ensures { Runs result
+    ensures { Evaluates result
         (operated steps
         (operation_of operator (tree_of_operand left.now) (tree_of_operand right.now))) }
 {
@@ -273,7 +273,7 @@ fn apply_prefix(prefix: Prefix, value: &Value) -> Result<Value, CallFault>
 /// What `not` or a minus makes of a value, which is counted.
 #[tactic(auto, using(crate::proofs::OperationLemmas::no_prefix))]
 pub fn operate_prefix(prefix: Prefix, value: &Operand, steps: Steps) -> Result<Counted, CallFault>
-    ensures { Runs result (operated steps (prefixed_of prefix (tree_of_operand value.now))) }
+    ensures { Evaluates result (operated steps (prefixed_of prefix (tree_of_operand value.now))) }
 {
     match value {
         Operand::Plain(value) => count_value(apply_prefix(prefix, value)?, steps),
@@ -299,7 +299,7 @@ fn place(length: usize, at: i64) -> Option<usize>
 }
 
 fn item(alloc: Global, items: &[Value], at: i64, steps: Steps) -> Result<Counted, CallFault>
-    ensures { Runs result (operated steps
+    ensures { Evaluates result (operated steps
         (at_place (item_at (items_of (trees_of items.now)))
         (place_of (items_length (items_of (trees_of items.now))) at))) }
 {
@@ -337,7 +337,7 @@ fn named_member(
     name: &Text,
     steps: Steps,
 ) -> Result<Counted, CallFault>
-    ensures { Runs result
+    ensures { Evaluates result
         (operated steps (member_of name.now (members_of (entries_of members.now)))) }
 {
     match member(members, name) {
@@ -352,7 +352,7 @@ fn element_of_value(
     at: &Value,
     steps: Steps,
 ) -> Result<Counted, CallFault>
-    ensures { Runs result (operated steps (element_of (tree_of whole.now) (tree_of at.now))) }
+    ensures { Evaluates result (operated steps (element_of (tree_of whole.now) (tree_of at.now))) }
 {
     match whole {
         Value::List(list) => match at {
@@ -380,7 +380,7 @@ fn whole_at(numbers: &[i64], at: i64) -> Result<Value, CallFault>
 }
 
 fn element_of_wholes(numbers: &[i64], at: &Value, steps: Steps) -> Result<Counted, CallFault>
-    ensures { Runs result
+    ensures { Evaluates result
         (operated steps (element_of (list_of_wholes numbers.now) (tree_of at.now))) }
 {
     match at {
@@ -398,7 +398,7 @@ pub fn element(
     at: &Operand,
     steps: Steps,
 ) -> Result<Counted, CallFault>
-    ensures { Runs result
+    ensures { Evaluates result
         (operated steps (element_of (tree_of_operand whole.now) (tree_of_operand at.now))) }
 {
     match at {

@@ -11,7 +11,7 @@ use Rattle.jl_rely.specs.Steps.{IsLone}
 use Rattle.jl_rely.specs.Claims.{Called, Anywhere, AnyMove}
 use Rattle.jl_rely.proofs.Composed.{called_keeps, called_for}
 use Rattle.jl_rely.proofs.Moving.{moves_called}
-use Rattle.jl_protocol.specs.Whole.{Answers}
+use Rattle.jl_protocol.specs.Whole.{CodeAnswers}
 use Rattle.jl_protocol.specs.Proper.{IsProper, IsLawful}
 use Rattle.jl_protocol.specs.Tidy.{IsTidy, IsSound}
 use Rattle.jl_protocol.proofs.Kills.{sound_carried}
@@ -37,7 +37,7 @@ module _ (root : PathView) (Of : PathView → Type 0) (answer : Clear) (old new 
   claims_called : Called (IsProper root) (IsProper root) (IsTaking root Of) Anywhere Anywhere old new
   claims_called = moves_called (IsProper root) (IsProper root) (IsTaking root Of) Anywhere old new (taking_proper root Of old.token) (a.moves t)
 
-  claims_lawful : (answers : Answers) → Called (IsLawful root answers) (IsLawful root answers) AnyMove (IsSound root answers) (IsSound root answers) old new
+  claims_lawful : (answers : CodeAnswers) → Called (IsLawful root answers) (IsLawful root answers) AnyMove (IsSound root answers) (IsSound root answers) old new
   claims_lawful answers =
       called_for (IsLawful root answers) (IsLawful root answers) (IsTaking root Of) AnyMove (λ s. IsSound root answers s × Anywhere s) (IsSound root answers) (λ s. IsSound root answers s × Anywhere s) (IsSound root answers) old new
       (λ m is. tt) (λ s sound. (sound, tt)) (λ s both. both.0)

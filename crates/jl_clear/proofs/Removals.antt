@@ -21,7 +21,7 @@ use Rattle.jl_rely.proofs.Composed.{went_call, goes_call}
 use Rattle.jl_rely.proofs.Seen.{some_end}
 use Rattle.jl_rely.proofs.Effects.{removed_here, unmade_here}
 use Rattle.jl_folder.proofs.Traces.{run-append}
-use Rattle.jl_protocol.specs.Whole.{Answers}
+use Rattle.jl_protocol.specs.Whole.{CodeAnswers}
 use Rattle.jl_protocol.specs.Proper.{IsProper, IsLawful, RenamesTrue}
 use Rattle.jl_protocol.specs.Tidy.{IsTidy}
 use Rattle.jl_protocol.proofs.Kills.{tidy_at_end}
@@ -43,7 +43,7 @@ taking_proper root Of token s (Rename p q) is = absurd is
 taking_proper root Of token s (Remove p) is = always_remove root token s p is.0
 taking_proper root Of token s (RemoveDir p) is = always_remove_dir root token s p is.0
 
-pub taking_lawful : (root : PathView) (answer : Answers) (Of : PathView → Type 0) (token : List ℕ) (s : State) (m : Move) → IsTaking root Of m → IsLawful root answer token s m
+pub taking_lawful : (root : PathView) (answer : CodeAnswers) (Of : PathView → Type 0) (token : List ℕ) (s : State) (m : Move) → IsTaking root Of m → IsLawful root answer token s m
 unfolding IsTaking RenamesTrue
 taking_lawful root answer Of token s (MakeDir p) is = absurd is
 taking_lawful root answer Of token s (Create p n) is = absurd is

@@ -25,9 +25,9 @@ use Rattle.jl_cmd.specs.Course.{Stretch}
 use Rattle.jl_cmd.specs.Output.{call_output}
 use Rattle.jl_cmd.specs.Caches.{CallsLawfully, IsOfCall, CallsIn}
 use Rattle.jl_cmd.specs.Calling.{CallWarns, LeavesCalled, ComputedAt, EndedAt}
-use Rattle.jl_cmd.specs.Coming.{HasComputed, ComesCalled}
+use Rattle.jl_cmd.specs.Coming.{ComputedWith, ComesCalled}
 use Rattle.jl_cmd.specs.of.Call.{CallEnds, CallEnded}
-use Rattle.jl_cmd.specs.Endings.{Finishes}
+use Rattle.jl_cmd.specs.Endings.{EndsComputed}
 use Rattle.jl_cmd.specs.Met.{of_nothing, of_module}
 use Rattle.jl_cmd.specs.Computing.{Computes, Counts, Calls, IsRefusal, WritesWarned}
 use Rattle.jl_cmd.specs.Texts.{warning_lines}
@@ -80,7 +80,7 @@ module _ (v : Stretch) (file location : PathView) (name args : List ℕ) (out : 
         trusted_later (root_of location) v.means.answer v.folder mid v.folder' Kinds (lawful_waits (root_of location) v.means.answer Kinds v.folder mid parts.keeps.token (parts.waits trust.0)) (lawful trust.0).went (parts.keeps.told trust.0) trust
 
     -- it ends as its output is written
-    ends_read : (e : Ended) → Finishes (call_output v.means bytes name args) Trusts out out' e → CallEnds file location name args v (of_module bytes) out out' e
+    ends_read : (e : Ended) → EndsComputed (call_output v.means bytes name args) Trusts out out' e → CallEnds file location name args v (of_module bytes) out out' e
     ends_read Done h = (parts.reads, h)
     ends_read (Failed t) h = (parts.reads, h)
     ends_read (Refused t) h = (parts.reads, h)
@@ -94,7 +94,7 @@ module _ (v : Stretch) (file location : PathView) (name args : List ℕ) (out : 
     -- a call whose module was read
     pub call_read : (c : Computed) (e : Ended) (said : List ℕ) (none items : List Warning) → none ≡ [] → (v.folder.told → CallsLawfully location v.means.answer Kinds mid v.folder') → Computes (call_output v.means bytes name args) (IsTrusted (root_of location) v.means.answer mid v.folder') c → Counts c v.calls v.calls' → CallWarns v.means memory bytes name args mid v.folder' none items
         → (mid.told → IsLone mid.token (moved mid v.folder') → IsSound (root_of memory.location) v.means.answer (state mid) → (Rose mid.faults v.folder'.faults → ⊥) → ComputedAt c (LeavesCalled memory bytes name args (after_reading v mid)))
-        → ComputedAt c (ComesCalled memory bytes name args (after_reading v mid) (HasComputed c none items)) → (IsRefusal c → v.folder.told → Waits v.folder v.folder') → (IsRefusal c → v.host'.moments ≡ v.host.moments) → WritesWarned c e out out' → ((old new : ℕ) → Counts c old new → Calls e old new)
+        → ComputedAt c (ComesCalled memory bytes name args (after_reading v mid) (ComputedWith c none items)) → (IsRefusal c → v.folder.told → Waits v.folder v.folder') → (IsRefusal c → v.host'.moments ≡ v.host.moments) → WritesWarned c e out out' → ((old new : ℕ) → Counts c old new → Calls e old new)
         → (said ≡ warning_lines memory.«module» items) ⊎ ((said ≡ []) × (e ≡ NoMemory)) → CallEnded file location name args v out out' e said
     unfolding LawfulThroughout
     call_read c e said none items empty lawful computes counts warns leaves comes refuses stands writes calls lines = record {

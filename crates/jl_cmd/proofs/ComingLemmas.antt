@@ -40,7 +40,7 @@ use Rattle.jl_cmd.specs.Computing.{Computes, IsPrinted, IsFailed, WritesWarned}
 use Rattle.jl_cmd.specs.Texts.{warning_lines}
 use Rattle.jl_cmd.specs.Calling.{asked_by, memory_at, ComputedAt, EndedAt}
 use Rattle.jl_cmd.specs.Saying.{StatusAt}
-use Rattle.jl_cmd.specs.Coming.{ComesAsked, ComesCalled, ComesRead, CallComes, IsComputed, HasComputed, EndsWith, PutsOut}
+use Rattle.jl_cmd.specs.Coming.{ComesAsked, ComesCalled, ComesRead, CallComes, IsComputed, ComputedWith, EndsWith, PutsOut}
 use Rattle.jl_cmd.proofs.CallingLemmas.{Parts, after_reading, first, next, all_over, computed_map, memory_at_end, named_memory, status_at}
 use Rattle.jl_cmd.proofs.IdleLemmas.{own_waits}
 
@@ -97,7 +97,7 @@ module _ (out out' : SinkView) (lines m : List ℕ) (none items : List Warning) 
   added_lines added e = said ∙ ap (λ (ws : List Warning). warning_lines m ws) (e ∙ ap (λ (ws : List Warning). ws ++ added) empty)
 
   -- a value that was printed whole
-  done_with : (t : List ℕ) → (out.told → out'.written ≡ out.written ++ t) → (o : Output) (added : List Warning) → HasComputed (computed.Printed t) none items o added → EndsWith Done lines out out' m o added
+  done_with : (t : List ℕ) → (out.told → out'.written ≡ out.written ++ t) → (o : Output) (added : List Warning) → ComputedWith (computed.Printed t) none items o added → EndsWith Done lines out out' m o added
   done_with t wrote o added k = record {
     lines = added_lines added k.1;
     text = ap (λ (x : Output). x.text) k.0;
@@ -105,7 +105,7 @@ module _ (out out' : SinkView) (lines m : List ℕ) (none items : List Warning) 
   }
 
   -- an error of the function
-  failed_so : (t : List ℕ) → (out.told → out'.written ≡ out.written) → (o : Output) (added : List Warning) → HasComputed (computed.Failed t) none items o added → EndsWith (Failed t) lines out out' m o added
+  failed_so : (t : List ℕ) → (out.told → out'.written ≡ out.written) → (o : Output) (added : List Warning) → ComputedWith (computed.Failed t) none items o added → EndsWith (Failed t) lines out out' m o added
   failed_so t same o added k = record {
     lines = added_lines added k.1;
     text = ap (λ (x : Output). x.text) k.0;
@@ -117,9 +117,9 @@ module _ (out out' : SinkView) (lines m : List ℕ) (none items : List Warning) 
     abbrev Came : (Output → List Warning → Type 0) → ℕ → Type 0
     Came Puts n = ComesRead file memory bytes name args v Puts n
 
-    ended_with : (c : Computed) (e : Ended) → WritesWarned c e out out' → ComputedAt c (Came (HasComputed c none items)) → EndedAt e (Came (EndsWith e lines out out' m))
+    ended_with : (c : Computed) (e : Ended) → WritesWarned c e out out' → ComputedAt c (Came (ComputedWith c none items)) → EndedAt e (Came (EndsWith e lines out out' m))
     ended_with c e (inr lost) h = memory_at_end e _ lost.0
-    ended_with (computed.Printed t) Done (inl x) h = put_as file memory bytes name args v (HasComputed (computed.Printed t) none items) (EndsWith Done lines out out' m) 0 (done_with t x) h
+    ended_with (computed.Printed t) Done (inl x) h = put_as file memory bytes name args v (ComputedWith (computed.Printed t) none items) (EndsWith Done lines out out' m) 0 (done_with t x) h
     ended_with (computed.Printed t) WriteFault (inl x) h = tt
     ended_with (computed.Printed t) (Failed u) (inl x) h = absurd x
     ended_with (computed.Printed t) Usage (inl x) h = tt
@@ -130,7 +130,7 @@ module _ (out out' : SinkView) (lines m : List ℕ) (none items : List Warning) 
     ended_with (computed.Printed t) FolderFault (inl x) h = tt
     ended_with (computed.Failed t) e (inl x) h =
         subst (λ (e' : Ended). EndedAt e' (Came (EndsWith e' lines out out' m))) (sym x.0)
-        (put_as file memory bytes name args v (HasComputed (computed.Failed t) none items) (EndsWith (Failed t) lines out out' m) 1 (failed_so t x.1) h)
+        (put_as file memory bytes name args v (ComputedWith (computed.Failed t) none items) (EndsWith (Failed t) lines out out' m) 1 (failed_so t x.1) h)
     ended_with (computed.Refused t) e (inl x) h = subst (λ (e' : Ended). EndedAt e' (Came (EndsWith e' lines out out' m))) (sym x.0) tt
     ended_with computed.NoMemory e (inl x) h = memory_at_end e _ x.0
 
@@ -208,12 +208,12 @@ module _ (v : Stretch) (mid : FolderView) (file location : PathView) (memory : M
 
   -- and of how it ended
   pub written_comes : (name args : List ℕ) (out out' : SinkView) (c : Computed) (ended : Ended) (lines : List ℕ) (none items : List Warning) → none ≡ [] → WritesWarned c ended out out' → (lines ≡ warning_lines memory.«module» items) ⊎ ((lines ≡ []) × (ended ≡ NoMemory))
-      → ComputedAt c (ComesCalled memory bytes name args (after_reading v mid) (HasComputed c none items)) → CallComes file location bytes name args v (EndsWith ended lines out out') (EndedAt ended)
+      → ComputedAt c (ComesCalled memory bytes name args (after_reading v mid) (ComputedWith c none items)) → CallComes file location bytes name args v (EndsWith ended lines out out') (EndedAt ended)
   written_comes name args out out' c ended lines none items empty writes (inr lost) comes m is = memory_at_end ended _ lost.1
   written_comes name args out out' c ended lines none items empty writes (inl said) comes m is =
       let same = named_memory memory file location m v.folder.token parts.located parts.named parts.by is in
       ended_with out out' lines m none items empty (subst (λ (x : Memory). lines ≡ warning_lines x.«module» items) same said) file (memory_at location m v.folder.token) bytes name args v c ended writes
-      (call_comes name args (HasComputed c none items) c comes m is)
+      (call_comes name args (ComputedWith c none items) c comes m is)
 
 -- ---- the run
 

@@ -15,12 +15,12 @@ use Rattle.jl_cmd.specs.declared.computed.Computed.{Computed}
 use Rattle.jl_cmd.specs.declared.computed.Computed.TheVariants as computed
 use Rattle.jl_cmd.specs.Course.{Course, IsClear}
 use Rattle.jl_cmd.specs.Computing.{Computes, WritesWarned, Calls}
-use Rattle.jl_cmd.specs.Endings.{LacksModule, LacksTold, WritesNothing, Finishes, RunEnds, status_of, last_text}
+use Rattle.jl_cmd.specs.Endings.{LacksModule, LacksTold, WritesNothing, EndsComputed, RunEnds, status_of, last_text}
 use Rattle.jl_cmd.specs.Met.{Met, IsMet, output_in}
 use Rattle.jl_cmd.specs.Needs.{needs_of, AreBuffered}
 use Rattle.jl_cmd.specs.Output.{Output}
-use Rattle.jl_cmd.specs.Premise.{Seen, Stated, Premise}
-use Rattle.jl_cmd.specs.Promises.{IsWhole, IsSilent, IsStatus, Answers, AnswersFront, CountsCalls, IsValid, IsFaultless, IsComplete, text_of_status}
+use Rattle.jl_cmd.specs.Premise.{TellsFile, Stated, Premise}
+use Rattle.jl_cmd.specs.Promises.{HasWholeOutput, IsSilent, IsStatus, AnswersWhole, AnswersFront, CountsCalls, IsValid, IsFaultless, IsComplete, text_of_status}
 use Rattle.jl_cmd.specs.Puts.{PutsWhole, Puts, GivenPuts, IsUnprinted}
 use Rattle.jl_cmd.specs.Saying.{SaidBy}
 
@@ -151,7 +151,7 @@ module _ (s : Command) (w : Course) (met : Met) (buffered : T (needs_of s).buffe
   }
 
   -- the output of what was met was computed and written
-  pub finished_so : (trusted : Type 0) (e : Ended) → IsMet s w met → (Premise (needs_of s) w → trusted) → Finishes (output_in s w met) trusted w.out w.out' e → Finished (Some s) w met e
+  pub finished_so : (trusted : Type 0) (e : Ended) → IsMet s w met → (Premise (needs_of s) w → trusted) → EndsComputed (output_in s w met) trusted w.out w.out' e → Finished (Some s) w met e
   finished_so trusted Done is_met rests h = record {
     ends = tt;
     puts = λ p. let k = h (rests p) in record { is_met = is_met; status = k.0; text = k.1; written = k.2 };
@@ -197,7 +197,7 @@ abbrev pub SaysLast : Option Command → Course → Met → (err err' : SinkView
 SaysLast given w met err err' e = IsClear err err' → (said : List ℕ) × SaidBy given w met said × (err'.written ≡ err.written ++ (said ++ last_text e))
 
 module _ (s : Command) (w : Course) (met : Met) (err err' : SinkView) where
-  answers_of : (e : Ended) → PutsWhole s w met e → SaysLast (Some s) w met err err' e → Answers s w met err err' (status_of e)
+  answers_of : (e : Ended) → PutsWhole s w met e → SaysLast (Some s) w met err err' e → AnswersWhole s w met err err' (status_of e)
   answers_of e k says = record {
     is_met = k.is_met;
     status = k.status;
@@ -206,7 +206,7 @@ module _ (s : Command) (w : Course) (met : Met) (err err' : SinkView) where
   }
 
   -- an error of the function and a refusal rest on what was seen and heard alone
-  stated_whole : (e : Ended) → Puts s w met e → Stated (needs_of s) w → SaysLast (Some s) w met err err' e → (status_of e ≡ 1) ⊎ (status_of e ≡ 3) → Answers s w met err err' (status_of e)
+  stated_whole : (e : Ended) → Puts s w met e → Stated (needs_of s) w → SaysLast (Some s) w met err err' e → (status_of e ≡ 1) ⊎ (status_of e ≡ 3) → AnswersWhole s w met err err' (status_of e)
   stated_whole (Failed t) puts stated says which = answers_of (Failed t) (puts stated) says
   stated_whole (Refused t) puts stated says which = answers_of (Refused t) (puts stated) says
   stated_whole Done puts stated says which = absurd (neither 0 1 3 (λ e. omega arith) (λ e. omega arith) which)
@@ -217,15 +217,15 @@ module _ (s : Command) (w : Course) (met : Met) (err err' : SinkView) where
   stated_whole NoModule puts stated says which = absurd (neither 9 1 3 (λ e. omega arith) (λ e. omega arith) which)
   stated_whole FolderFault puts stated says which = absurd (neither 10 1 3 (λ e. omega arith) (λ e. omega arith) which)
 
-  pub stated_at : (e : Ended) (n : ℕ) → n ≡ status_of e → Puts s w met e → Stated (needs_of s) w → SaysLast (Some s) w met err err' e → (n ≡ 1) ⊎ (n ≡ 3) → Answers s w met err err' n
+  pub stated_at : (e : Ended) (n : ℕ) → n ≡ status_of e → Puts s w met e → Stated (needs_of s) w → SaysLast (Some s) w met err err' e → (n ≡ 1) ⊎ (n ≡ 3) → AnswersWhole s w met err err' n
   stated_at e n at puts stated says which =
-      subst (λ (k : ℕ). Answers s w met err err' k) (sym at) (stated_whole e puts stated says (subst (λ (k : ℕ). (k ≡ 1) ⊎ (k ≡ 3)) at which))
+      subst (λ (k : ℕ). AnswersWhole s w met err err' k) (sym at) (stated_whole e puts stated says (subst (λ (k : ℕ). (k ≡ 1) ⊎ (k ≡ 3)) at which))
 
   -- a value rests on more
-  pub answers_at : (e : Ended) (n : ℕ) → n ≡ status_of e → Puts s w met e → Premise (needs_of s) w → SaysLast (Some s) w met err err' e → IsWhole n → Answers s w met err err' n
+  pub answers_at : (e : Ended) (n : ℕ) → n ≡ status_of e → Puts s w met e → Premise (needs_of s) w → SaysLast (Some s) w met err err' e → HasWholeOutput n → AnswersWhole s w met err err' n
   answers_at e n at puts p says (inl zero) =
       let is : e ≡ Done = done_is e (sym at ∙ zero) in
-      subst (λ (k : ℕ). Answers s w met err err' k) (sym zero)
+      subst (λ (k : ℕ). AnswersWhole s w met err err' k) (sym zero)
       (answers_of Done ((subst (λ (k : Ended). Puts s w met k) is puts) p) (subst (λ (k : Ended). SaysLast (Some s) w met err err' k) is says))
   answers_at e n at puts p says (inr which) = stated_at e n at puts (record { told = p.told; input = p.input }) says which
 
@@ -284,7 +284,7 @@ pub usage_there : (given : Option Command) (w : Course) (e : Ended) → RunEnds 
 usage_there given w e ends none = usage_there_none w e (subst (λ (g : Option Command). RunEnds g w e) none ends)
 
 -- a file that is lacked, where the folder tells
-module_lacked : (file : Option PathView) (w : Course) → Seen file w → LacksTold file w.folder w.folder' → LacksModule file w.folder w.folder'
+module_lacked : (file : Option PathView) (w : Course) → TellsFile file w → LacksTold file w.folder w.folder' → LacksModule file w.folder w.folder'
 module_lacked None w seen h = h
 module_lacked (Some file) w seen h = h seen
 
@@ -343,8 +343,8 @@ wrote_clear Wrote bytes a b writes fails clear = writes clear.0
 wrote_clear Fault bytes a b writes fails clear = absurd (clear.1 (fails refl))
 
 -- what was computed and written is how the command finishes
-pub finishes_so : (o : Output) (trusted : Type 0) (out out' : SinkView) (c : Computed) (e : Ended) → Computes o trusted c → WritesWarned c e out out' → Finishes o trusted out out' e
-finishes_so o trusted out out' c e h (inr lost) = subst (λ (e' : Ended). Finishes o trusted out out' e') (sym lost.0) lost.1
+pub finishes_so : (o : Output) (trusted : Type 0) (out out' : SinkView) (c : Computed) (e : Ended) → Computes o trusted c → WritesWarned c e out out' → EndsComputed o trusted out out' e
+finishes_so o trusted out out' c e h (inr lost) = subst (λ (e' : Ended). EndsComputed o trusted out out' e') (sym lost.0) lost.1
 finishes_so o trusted out out' (computed.Printed t) Done h (inl w) =
     λ cache. let is = h cache in (ap (λ p. p.status) is, ap (λ p. p.text) is, λ told. w told ∙ ap (λ b. out.written ++ b) (sym (ap (λ p. p.bytes) is)))
 finishes_so o trusted out out' (computed.Printed t) WriteFault h (inl w) =
@@ -356,9 +356,9 @@ finishes_so o trusted out out' (computed.Printed t) (Refused u) h (inl w) = absu
 finishes_so o trusted out out' (computed.Printed t) NoMemory h (inl w) = absurd w
 finishes_so o trusted out out' (computed.Printed t) NoModule h (inl w) = absurd w
 finishes_so o trusted out out' (computed.Printed t) FolderFault h (inl w) = absurd w
-finishes_so o trusted out out' (computed.Failed t) e h (inl w) = subst (λ (e' : Ended). Finishes o trusted out out' e') (sym w.0) (h, w.1)
-finishes_so o trusted out out' (computed.Refused t) e h (inl w) = subst (λ (e' : Ended). Finishes o trusted out out' e') (sym w.0) (h, w.1)
-finishes_so o trusted out out' computed.NoMemory e h (inl w) = subst (λ (e' : Ended). Finishes o trusted out out' e') (sym w.0) w.1
+finishes_so o trusted out out' (computed.Failed t) e h (inl w) = subst (λ (e' : Ended). EndsComputed o trusted out out' e') (sym w.0) (h, w.1)
+finishes_so o trusted out out' (computed.Refused t) e h (inl w) = subst (λ (e' : Ended). EndsComputed o trusted out out' e') (sym w.0) (h, w.1)
+finishes_so o trusted out out' computed.NoMemory e h (inl w) = subst (λ (e' : Ended). EndsComputed o trusted out out' e') (sym w.0) w.1
 
 -- a claim that rests on less
 pub computes_under : (o : Output) (A B : Type 0) (c : Computed) → (B → A) → Computes o A c → Computes o B c

@@ -26,19 +26,19 @@ use Rattle.jl_cmd.specs.declared.ended.Ended.{Ended}
 use Rattle.jl_cmd.specs.declared.ended.Ended.TheVariants.{Done, Failed, Usage, Refused, ReadFault, WriteFault, NoMemory, NoModule, FolderFault}
 use Rattle.jl_cmd.specs.Caches.{CallsLawfully, IsOfCall, CallsIn, RunsLawfully}
 use Rattle.jl_cmd.specs.Commands.{Command, call, hash, clear, reduce_size, tracker}
-use Rattle.jl_cmd.specs.Computing.{Computes, Writes}
-use Rattle.jl_cmd.specs.Course.{Meanings, Course, course, stretch_of, Keeps}
+use Rattle.jl_cmd.specs.Computing.{Computes, WritesComputed}
+use Rattle.jl_cmd.specs.Course.{Meanings, Course, course, stretch_of, KeepsCourse}
 use Rattle.jl_cmd.specs.Did.{GivenDid}
-use Rattle.jl_cmd.specs.Endings.{Finishes, status_of}
+use Rattle.jl_cmd.specs.Endings.{EndsComputed, status_of}
 use Rattle.jl_cmd.specs.Met.{Met, of_nothing}
 use Rattle.jl_cmd.specs.Output.{hash_output}
 use Rattle.jl_cmd.specs.Puts.{GivenPuts}
-use Rattle.jl_cmd.specs.Ran.{Ran, LeavesAlone}
-use Rattle.jl_cmd.specs.Saying.{Tells}
+use Rattle.jl_cmd.specs.Ran.{Ran, LeavesUnused}
+use Rattle.jl_cmd.specs.Saying.{TellsBehind}
 use Rattle.jl_cmd.specs.of.Call.{CallEnds, CallEnded}
-use Rattle.jl_cmd.specs.of.Clear.{IsCleared, EndsClearing, Clears}
+use Rattle.jl_cmd.specs.of.Clear.{IsCleared, EndsClearing, ClearsAsked}
 use Rattle.jl_cmd.specs.of.Reduce.{IsReported, EndsReducing}
-use Rattle.jl_cmd.specs.of.Track.{EndsTracked, Follows}
+use Rattle.jl_cmd.specs.of.Track.{EndsTracked, FollowsLines}
 use Rattle.jl_cmd.proofs.CacheLemmas.{trusting}
 use Rattle.jl_cmd.proofs.ClearEnds.{clears_so, runs_clear}
 use Rattle.jl_cmd.proofs.EndingLemmas.{Finished, finished_so, finished_short, finishes_so, all_buffered}
@@ -72,7 +72,7 @@ folder_keeps : (Fails : Type 0) (old new : FolderView) → FolderAnswers Fails o
 folder_keeps Fails old new f = record { told = f.told; token = f.token; opens = f.opens; later = f.faults.later }
 
 -- nothing was written to the error stream
-pub tells_nothing : (given : Option Command) (err : SinkView) → Tells given err (sink_point err)
+pub tells_nothing : (given : Option Command) (err : SinkView) → TellsBehind given err (sink_point err)
 tells_nothing given err = record { quiet = λ none. refl; behind = λ clear. ([], sym (append-nil _)) }
 
 -- ---- nothing is run
@@ -98,7 +98,7 @@ module _ (means : Meanings) (calls : ℕ) (folder : FolderView) (host : HostView
       runs_reduce location limits rest (lawful_none (root_of location) means.answer AnyMove folder) (own_none (IsTaking (root_of location) (IsOfEntry (root_of location))) folder)
   runs_nothing (Some tracker) = record { went = goes_none folder; idle = λ none. silent_none folder; own = asked means.answer input folder folder (asks_nothing input folder) }
 
-  rest_keeps : (e : Ended) → (e ≡ ReadFault → ⊥) → (e ≡ WriteFault → ⊥) → Keeps (e ≡ ReadFault) (e ≡ WriteFault) rest err err
+  rest_keeps : (e : Ended) → (e ≡ ReadFault → ⊥) → (e ≡ WriteFault → ⊥) → KeepsCourse (e ≡ ReadFault) (e ≡ WriteFault) rest err err
   rest_keeps e no_read no_write = record {
     folder = folder_still folder;
     host = host_still host;
@@ -108,7 +108,7 @@ module _ (means : Meanings) (calls : ℕ) (folder : FolderView) (host : HostView
   }
 
   -- nothing was cleared
-  clears_none : (location : PathView) (m f : Option (List ℕ)) (key : Option Key) → Clears location m f key NoMemory folder folder
+  clears_none : (location : PathView) (m f : Option (List ℕ)) (key : Option Key) → ClearsAsked location m f key NoMemory folder folder
   clears_none location m f key =
       let P = IsProper (root_of location) in
       record {
@@ -180,9 +180,9 @@ module _ (means : Meanings) (calls : ℕ) (folder : FolderView) (host : HostView
   abbrev printed : Course
   printed = course means calls calls folder folder host host input input out out'
 
-  pub ran_hash : (args : List ℕ) (c : Computed) (e : Ended) → Computes (hash_output args) ⊤ c → Writes c e out out' → SinkAnswers (e ≡ WriteFault) out out' → Ran (Some (hash args)) printed err (sink_point err) e []
+  pub ran_hash : (args : List ℕ) (c : Computed) (e : Ended) → Computes (hash_output args) ⊤ c → WritesComputed c e out out' → SinkAnswers (e ≡ WriteFault) out out' → Ran (Some (hash args)) printed err (sink_point err) e []
   ran_hash args c e computes writes answers =
-      let fin : Finishes (hash_output args) ⊤ out out' e = finishes_so (hash_output args) ⊤ out out' c e computes (inl writes) in
+      let fin : EndsComputed (hash_output args) ⊤ out out' e = finishes_so (hash_output args) ⊤ out out' c e computes (inl writes) in
       let done = finished_so (hash args) printed of_nothing tt ⊤ e refl (λ p. tt) fin in
       record {
         met = of_nothing;
@@ -198,7 +198,7 @@ module _ (means : Meanings) (calls : ℕ) (folder : FolderView) (host : HostView
         frame = record {
           folder = folder_still folder;
           host = host_still host;
-          input = input_still input e (λ is. subst (λ (e' : Ended). Finishes (hash_output args) ⊤ out out' e') is fin);
+          input = input_still input e (λ is. subst (λ (e' : Ended). EndsComputed (hash_output args) ⊤ out out' e') is fin);
           out = answers;
           err = err_still err;
         };
@@ -256,7 +256,7 @@ module _ (means : Meanings) (calls : ℕ) (folder folder' : FolderView) (host : 
   abbrev cleared : Course
   cleared = course means calls calls folder folder' host host input input out out
 
-  pub ran_clear : (location : PathView) (m f : Option (List ℕ)) (key : Option Key) (e : Ended) → EndsClearing e folder folder' → (folder.told → Clears location m f key e folder folder') → FolderAnswers (e ≡ FolderFault) folder folder' → Ran (Some (clear location m f key)) cleared err (sink_point err) e []
+  pub ran_clear : (location : PathView) (m f : Option (List ℕ)) (key : Option Key) (e : Ended) → EndsClearing e folder folder' → (folder.told → ClearsAsked location m f key e folder folder') → FolderAnswers (e ≡ FolderFault) folder folder' → Ran (Some (clear location m f key)) cleared err (sink_point err) e []
   ran_clear location m f key e ends clears answers = record {
     met = of_nothing;
     ends = (clears_so location m f key cleared e (λ told. refl) ends).ends;
@@ -311,7 +311,7 @@ module _ (means : Meanings) (calls : ℕ) (folder folder' : FolderView) (host : 
   abbrev followed : Course
   followed = course means calls calls folder folder' host host input input' out out
 
-  pub ran_tracker : (e : Ended) → Follows input input' folder folder' err err' e → FolderKeeps folder folder' → SourceAnswers (e ≡ ReadFault) input input' → SinkKeeps err err' → Ran (Some tracker) followed err (sink_point err') e []
+  pub ran_tracker : (e : Ended) → FollowsLines input input' folder folder' err err' e → FolderKeeps folder folder' → SourceAnswers (e ≡ ReadFault) input input' → SinkKeeps err err' → Ran (Some tracker) followed err (sink_point err') e []
   ran_tracker e follows keeps inputs errs = record {
     met = of_nothing;
     ends = (follows_ends followed err err' e (λ told. refl) inputs.faults.failed follows).ends;
@@ -342,7 +342,7 @@ module _ (means : Meanings) (calls : ℕ) (folder folder' : FolderView) (host : 
 -- ---- what is left alone
 
 module _ {L F H S : Type 0} (Unread : Type 0) (lib lib' : L) (disk disk' : F) (machine machine' : H) (source source' : S) where
-  pub call_alone : (file location : PathView) (name args : List ℕ) → source' ≡ source → (Unread → (lib' ≡ lib) × (machine' ≡ machine)) → LeavesAlone (Some (call file location name args)) Unread lib lib' disk disk' machine machine' source source'
+  pub call_alone : (file location : PathView) (name args : List ℕ) → source' ≡ source → (Unread → (lib' ≡ lib) × (machine' ≡ machine)) → LeavesUnused (Some (call file location name args)) Unread lib lib' disk disk' machine machine' source source'
   call_alone file location name args input unread = record {
     library = λ none. absurd (none tt);
     folder = λ none. absurd (none tt);
@@ -351,7 +351,7 @@ module _ {L F H S : Type 0} (Unread : Type 0) (lib lib' : L) (disk disk' : F) (m
     unread = λ u calling. unread u;
   }
 
-  pub clear_alone : (location : PathView) (m f : Option (List ℕ)) (key : Option Key) → lib' ≡ lib → machine' ≡ machine → source' ≡ source → LeavesAlone (Some (clear location m f key)) Unread lib lib' disk disk' machine machine' source source'
+  pub clear_alone : (location : PathView) (m f : Option (List ℕ)) (key : Option Key) → lib' ≡ lib → machine' ≡ machine → source' ≡ source → LeavesUnused (Some (clear location m f key)) Unread lib lib' disk disk' machine machine' source source'
   clear_alone location m f key library host input = record {
     library = λ none. library;
     folder = λ none. absurd (none tt);
@@ -360,7 +360,7 @@ module _ {L F H S : Type 0} (Unread : Type 0) (lib lib' : L) (disk disk' : F) (m
     unread = λ u calling. absurd calling;
   }
 
-  pub reduce_alone : (location : PathView) (limits : Limits) → lib' ≡ lib → source' ≡ source → LeavesAlone (Some (reduce_size location limits)) Unread lib lib' disk disk' machine machine' source source'
+  pub reduce_alone : (location : PathView) (limits : Limits) → lib' ≡ lib → source' ≡ source → LeavesUnused (Some (reduce_size location limits)) Unread lib lib' disk disk' machine machine' source source'
   reduce_alone location limits library input = record {
     library = λ none. library;
     folder = λ none. absurd (none tt);
@@ -369,7 +369,7 @@ module _ {L F H S : Type 0} (Unread : Type 0) (lib lib' : L) (disk disk' : F) (m
     unread = λ u calling. absurd calling;
   }
 
-  pub tracker_alone : lib' ≡ lib → machine' ≡ machine → LeavesAlone (Some tracker) Unread lib lib' disk disk' machine machine' source source'
+  pub tracker_alone : lib' ≡ lib → machine' ≡ machine → LeavesUnused (Some tracker) Unread lib lib' disk disk' machine machine' source source'
   tracker_alone library host = record {
     library = λ none. library;
     folder = λ none. absurd (none tt);
@@ -379,7 +379,7 @@ module _ {L F H S : Type 0} (Unread : Type 0) (lib lib' : L) (disk disk' : F) (m
   }
 
   -- where nothing was used
-  pub none_alone : (given : Option Command) → lib' ≡ lib → disk' ≡ disk → machine' ≡ machine → source' ≡ source → LeavesAlone given Unread lib lib' disk disk' machine machine' source source'
+  pub none_alone : (given : Option Command) → lib' ≡ lib → disk' ≡ disk → machine' ≡ machine → source' ≡ source → LeavesUnused given Unread lib lib' disk disk' machine machine' source source'
   none_alone given library folder host input = record {
     library = λ none. library;
     folder = λ none. folder;
@@ -389,8 +389,8 @@ module _ {L F H S : Type 0} (Unread : Type 0) (lib lib' : L) (disk disk' : F) (m
   }
 
   -- in other words
-  pub alone_as : (o o' : Option Command) (U : Type 0) → o ≡ o' → (U → Unread) → LeavesAlone o Unread lib lib' disk disk' machine machine' source source' → LeavesAlone o' U lib lib' disk disk' machine machine' source source'
-  alone_as o o' U p f h = subst (λ (g : Option Command). LeavesAlone g U lib lib' disk disk' machine machine' source source') p (record { library = h.library; folder = h.folder; host = h.host; input = h.input; unread = λ u. h.unread (f u) })
+  pub alone_as : (o o' : Option Command) (U : Type 0) → o ≡ o' → (U → Unread) → LeavesUnused o Unread lib lib' disk disk' machine machine' source source' → LeavesUnused o' U lib lib' disk disk' machine machine' source source'
+  alone_as o o' U p f h = subst (λ (g : Option Command). LeavesUnused g U lib lib' disk disk' machine machine' source source') p (record { library = h.library; folder = h.folder; host = h.host; input = h.input; unread = λ u. h.unread (f u) })
 
 -- ---- in other words
 

@@ -18,7 +18,7 @@ use Rattle.jl_cmd.specs.Promises.{IsStatus}
 use Rattle.jl_cmd.specs.Puts.{GivenPuts}
 use Rattle.jl_cmd.specs.Ran.{Ran, RanTo, Runs}
 use Rattle.jl_cmd.specs.Reporting.{sink_at}
-use Rattle.jl_cmd.specs.Saying.{Tells, SaidBy}
+use Rattle.jl_cmd.specs.Saying.{TellsBehind, SaidBy}
 use Rattle.jl_cmd.specs.Uncalled.{IsUncalled}
 use Rattle.jl_cmd.specs.of.Call.{CallSays}
 use Rattle.jl_cmd.proofs.CallingLemmas.{leaves_at}
@@ -32,7 +32,7 @@ faults_at : (e k : Ended) (n : ℕ) (a b : ℕ) → n ≡ status_of e → (n ≡
 faults_at e k n a b at only f = record { later = f.later; failed = λ is. f.failed (only is); steady = λ none. f.steady (λ same. none (at ∙ ap status_of same)) }
 
 -- what was said before the last text: the lines of warnings, or what the command wrote by itself
-run_says : (given : Option Command) (w : Course) (met : Met) (err : SinkView) (point : SinkPoint) (err' : SinkView) (e : Ended) (lines : List ℕ) → ((AreCalling given → ⊥) → lines ≡ []) → Tells given err point
+run_says : (given : Option Command) (w : Course) (met : Met) (err : SinkView) (point : SinkPoint) (err' : SinkView) (e : Ended) (lines : List ℕ) → ((AreCalling given → ⊥) → lines ≡ []) → TellsBehind given err point
     → ((file location : PathView) (name args : List ℕ) → given ≡ Some (call file location name args) → CallSays file location (bytes_in met) name args (stretch_of w) lines)
     → err.faults ≤ point.faults → point.faults ≤ err'.faults → (IsClear (sink_at err point) err' → err'.written ≡ point.written ++ (lines ++ last_text e)) → SaysLast given w met err err' e
 run_says given w met err point err' e lines silent tells warned early late text clear = go (needs_given given).tells refl

@@ -12,9 +12,9 @@ use Rattle.jl_tracker.specs.declared.following.Tracked.{Tracked}
 use Rattle.jl_tracker.specs.declared.following.Tracked.TheVariants as tracked
 use Rattle.jl_tracker.specs.TrackerLines.{LineView}
 use Rattle.jl_tracker.specs.Effects.{Effect, AreReadings, text_of}
-use Rattle.jl_tracker.specs.Stages.{Stage, SinkPoint, sink_point, Point, point, stage}
+use Rattle.jl_tracker.specs.Stages.{Stage, SinkPoint, sink_point, StagePoint, stage_point, stage}
 use Rattle.jl_tracker.specs.Plays.{Wrote, PlaysAt, CutFirst, StopsAt}
-use Rattle.jl_tracker.specs.Tracking.{EndsLines, Seen, Tracks, TracksMuch}
+use Rattle.jl_tracker.specs.Tracking.{EndsLines, LinesSeen, Tracks, TracksMuch}
 use Rattle.jl_cmd.specs.declared.ended.Ended.{Ended}
 use Rattle.jl_cmd.specs.declared.ended.Ended.TheVariants.{Done, ReadFault, NoMemory}
 use Rattle.jl_cmd.specs.Commands.{tracker}
@@ -22,9 +22,9 @@ use Rattle.jl_cmd.specs.Course.{Course, IsClear}
 use Rattle.jl_cmd.specs.Output.{newlines, refuses_input, tracker_output}
 use Rattle.jl_cmd.specs.Endings.{WritesNothing, status_of, last_text}
 use Rattle.jl_cmd.specs.Met.{of_nothing}
-use Rattle.jl_cmd.specs.of.Track.{EndsTracked, Follows, RunsTracker}
+use Rattle.jl_cmd.specs.of.Track.{EndsTracked, FollowsLines, RunsTracker}
 use Rattle.jl_cmd.specs.Reporting.{sink_at}
-use Rattle.jl_cmd.specs.Saying.{Tells}
+use Rattle.jl_cmd.specs.Saying.{TellsBehind}
 use Rattle.jl_cmd.specs.Statuses as status
 use Rattle.jl_cmd.proofs.EndingLemmas.{Finished, finished_so, finished_short}
 use Rattle.jl_cmd.proofs.TrackerMoves.{tracks_nothing, asks_nothing}
@@ -72,7 +72,7 @@ readings-length (l ∷ ls) [] h = absurd h
 readings-length (l ∷ ls) (r ∷ rs) h = let e = readings-length ls rs h.1 in omega (arith, e)
 
 -- the lines that were read end with as many newlines as stand among the first bytes
-first_newlines : (lines : List (List ℕ)) (left rest more : List ℕ) (byte m : ℕ) → (s : Seen lines left (rest ++ byte ∷ more)) → has_newline rest ≡ false → m + (1 + length more) ≡ length left → newlines (take m left) ≡ length lines
+first_newlines : (lines : List (List ℕ)) (left rest more : List ℕ) (byte m : ℕ) → (s : LinesSeen lines left (rest ++ byte ∷ more)) → has_newline rest ≡ false → m + (1 + length more) ≡ length left → newlines (take m left) ≡ length lines
 first_newlines lines left rest more byte m s none much =
     let front : List ℕ = s.input ++ rest in
     let is : left ≡ front ++ byte ∷ more = s.left_is ∙ sym (append_assoc s.input rest (byte ∷ more)) in
@@ -128,7 +128,7 @@ module _ (w : Course) (a b : Stage) where
   ended (tracked.TooMuch line) e nothing rose t (inr is) = subst (λ (e' : Ended). Finished (Some tracker) w of_nothing e') (sym is) (finished_short tracker w of_nothing NoMemory tt tt tt nothing)
   ended tracked.NoMemory e nothing rose t is = subst (λ (e' : Ended). Finished (Some tracker) w of_nothing e') (sym is) (finished_short tracker w of_nothing NoMemory tt tt tt nothing)
 
-pub follows_ends : (w : Course) (err err' : SinkView) (e : Ended) → WritesNothing w.out w.out' → (e ≡ ReadFault → Rose w.input.faults w.input'.faults) → Follows w.input w.input' w.folder w.folder' err err' e → Finished (Some tracker) w of_nothing e
+pub follows_ends : (w : Course) (err err' : SinkView) (e : Ended) → WritesNothing w.out w.out' → (e ≡ ReadFault → Rose w.input.faults w.input'.faults) → FollowsLines w.input w.input' w.folder w.folder' err err' e → Finished (Some tracker) w of_nothing e
 follows_ends w err err' e nothing rose f = ended w (stage w.folder err) (stage w.folder' err') f.tracked e nothing rose f.tracks f.ends
 
 -- ---- the texts
@@ -156,27 +156,27 @@ says_then a m b x y =
     )
 
 module _ (s : Stage) where
-  plays_says : (es : List Effect) (a b : Point) → s.err.told → PlaysAt s es a b → Says a.err b.err
-  plays_says [] a b told h = says_same a.err b.err (ap (λ (x : Point). x.err) h)
+  plays_says : (es : List Effect) (a b : StagePoint) → s.err.told → PlaysAt s es a b → Says a.err b.err
+  plays_says [] a b told h = says_same a.err b.err (ap (λ (x : StagePoint). x.err) h)
   plays_says (e ∷ es) a b told h = says_then a.err h.1.err b.err (says_text (text_of e h.0) a.err h.1.err (h.2.text told)) (plays_says es h.1 b told h.3)
 
-  cut_says : (es : List Effect) (a b : Point) → CutFirst s es a b → Says a.err b.err
-  cut_says [] a b h = says_same a.err b.err (ap (λ (x : Point). x.err) h)
-  cut_says (e ∷ es) a b (inl h) = says_same a.err b.err (ap (λ (x : Point). x.err) h)
+  cut_says : (es : List Effect) (a b : StagePoint) → CutFirst s es a b → Says a.err b.err
+  cut_says [] a b h = says_same a.err b.err (ap (λ (x : StagePoint). x.err) h)
+  cut_says (e ∷ es) a b (inl h) = says_same a.err b.err (ap (λ (x : StagePoint). x.err) h)
   cut_says (e ∷ es) a b (inr h) = says_same a.err b.err h.err_is
 
-  stops_says : (es : List Effect) (a b : Point) → s.err.told → StopsAt s es a b → Says a.err b.err
+  stops_says : (es : List Effect) (a b : StagePoint) → s.err.told → StopsAt s es a b → Says a.err b.err
   stops_says es a b told h = says_then a.err h.mid.err b.err (plays_says h.first a h.mid told h.plays) (cut_says h.rest h.mid b h.cut)
 
 tracks_says : (source rest : SourceView) (a b : Stage) (end : Tracked) → a.err.told → Tracks source rest a b end → Says (sink_point a.err) (sink_point b.err)
-tracks_says source rest a b tracked.Ended told t = plays_says a _ (point a) (point b) told t.plays
-tracks_says source rest a b tracked.ReadFault told t = plays_says a _ (point a) (point b) told t.plays
-tracks_says source rest a b (tracked.TooMuch line) told t = plays_says a _ (point a) (point b) told t.plays
-tracks_says source rest a b tracked.NoMemory told t = elim t.stops [ inl h ↦ stops_says a _ (point a) (point b) told h | inr h ↦ stops_says a _ (point a) (point b) told h.1 ]
+tracks_says source rest a b tracked.Ended told t = plays_says a _ (stage_point a) (stage_point b) told t.plays
+tracks_says source rest a b tracked.ReadFault told t = plays_says a _ (stage_point a) (stage_point b) told t.plays
+tracks_says source rest a b (tracked.TooMuch line) told t = plays_says a _ (stage_point a) (stage_point b) told t.plays
+tracks_says source rest a b tracked.NoMemory told t = elim t.stops [ inl h ↦ stops_says a _ (stage_point a) (stage_point b) told h | inr h ↦ stops_says a _ (stage_point a) (stage_point b) told h.1 ]
 
 -- ---- at want of memory for the words
 
-pub follows_nothing : (folder : FolderView) (input : SourceView) (err : SinkView) → Follows input input folder folder err err NoMemory
+pub follows_nothing : (folder : FolderView) (input : SourceView) (err : SinkView) → FollowsLines input input folder folder err err NoMemory
 follows_nothing folder input err = record { tracked = tracked.NoMemory; tracks = tracks_nothing input (stage folder err); moves = λ told. asks_nothing input folder; ends = refl }
 
 -- ---- the run, once the last text is written
@@ -199,17 +199,17 @@ tracks_as source rest a folder err mid (tracked.TooMuch line) t = record {
 tracks_as source rest a folder err mid tracked.NoMemory t = record { lines = t.lines; readings = t.readings; open_line = t.open_line; read = t.read; seen = t.seen; stops = t.stops }
 
 -- and so is how the run went
-pub follows_at : (w : Course) (err mid : SinkView) (e : Ended) → Follows w.input w.input' w.folder w.folder' err mid e → Follows w.input w.input' w.folder w.folder' err (sink_at err (sink_point mid)) e
+pub follows_at : (w : Course) (err mid : SinkView) (e : Ended) → FollowsLines w.input w.input' w.folder w.folder' err mid e → FollowsLines w.input w.input' w.folder w.folder' err (sink_at err (sink_point mid)) e
 follows_at w err mid e f = record { tracked = f.tracked; tracks = tracks_as w.input w.input' (stage w.folder err) w.folder' err mid f.tracked f.tracks; moves = f.moves; ends = f.ends }
 
 -- the texts of the tracker stand behind the others
-pub follows_tells : (w : Course) (err : SinkView) (point : SinkPoint) (e : Ended) → Follows w.input w.input' w.folder w.folder' err (sink_at err point) e → Tells (Some tracker) err point
+pub follows_tells : (w : Course) (err : SinkView) (point : SinkPoint) (e : Ended) → FollowsLines w.input w.input' w.folder w.folder' err (sink_at err point) e → TellsBehind (Some tracker) err point
 follows_tells w err point e f = record {
   quiet = λ none. absurd (none tt);
   behind = λ clear. (tracks_says w.input w.input' (stage w.folder err) (stage w.folder' (sink_at err point)) f.tracked clear.0 f.tracks).1 clear.1;
 }
 
-pub runs_tracker : (w : Course) (err : SinkView) (point : SinkPoint) (err' : SinkView) (e : Ended) (lines : List ℕ) (n : ℕ) → n ≡ status_of e → point.faults ≤ err'.faults → (IsClear (sink_at err point) err' → err'.written ≡ point.written ++ (lines ++ last_text e)) → lines ≡ [] → Follows w.input w.input' w.folder w.folder' err (sink_at err point) e → RunsTracker w err err' n
+pub runs_tracker : (w : Course) (err : SinkView) (point : SinkPoint) (err' : SinkView) (e : Ended) (lines : List ℕ) (n : ℕ) → n ≡ status_of e → point.faults ≤ err'.faults → (IsClear (sink_at err point) err' → err'.written ≡ point.written ++ (lines ++ last_text e)) → lines ≡ [] → FollowsLines w.input w.input' w.folder w.folder' err (sink_at err point) e → RunsTracker w err err' n
 runs_tracker w err point err' e lines n is later text warned follows = record {
   ended = e;
   point = point;

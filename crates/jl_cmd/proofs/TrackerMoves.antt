@@ -10,14 +10,14 @@ use Rattle.jl_streams.specs.Views.{SourceView}
 use Rattle.jl_rely.specs.Claims.{Anywhere}
 use Rattle.jl_rely.proofs.Moving.{moves_none, moves_called}
 use Rattle.jl_entry.specs.Names.{IsOutside, IsBelow, IsOnWay, is_rooted}
-use Rattle.jl_protocol.specs.Whole.{Answers}
+use Rattle.jl_protocol.specs.Whole.{CodeAnswers}
 use Rattle.jl_protocol.specs.Proper.{IsLawful, LawfulThroughout, IsProperOutside, RenamesTrue}
 use Rattle.jl_lines.specs.Lines.{lines_of}
 use Rattle.jl_tracker.specs.declared.line.Kind.{Kind}
 use Rattle.jl_tracker.specs.declared.line.Kind.TheVariants as kind
 use Rattle.jl_tracker.specs.declared.following.Tracked.TheVariants as tracked
 use Rattle.jl_tracker.specs.Effects.{Effect, reports_bad, reports_unknown, reports_leaked, removes}
-use Rattle.jl_tracker.specs.Stages.{Stage, point}
+use Rattle.jl_tracker.specs.Stages.{Stage, stage_point}
 use Rattle.jl_tracker.specs.Taking.{all_effects, TakesResource, TakesForSome, MovesAsked}
 use Rattle.jl_tracker.specs.Tracking.{Tracks}
 use Rattle.jl_cmd.specs.of.Track.{LiesOutside, AreOutside, TakesAsked}
@@ -63,23 +63,23 @@ outside_more root p part some out = (
     not_below (inl h) = out.0 h
     not_below (inr e) = out.1 (part ∷ [], e, rooted_more p part some ∙ ap is_rooted (sym e))
 
-remove_lawful : (root : PathView) (answer : Answers) (token : List ℕ) (s : State) (p : PathView) → IsOutside root p → IsLawful root answer token s (Remove p)
+remove_lawful : (root : PathView) (answer : CodeAnswers) (token : List ℕ) (s : State) (p : PathView) → IsOutside root p → IsLawful root answer token s (Remove p)
 unfolding IsProperOutside RenamesTrue
 remove_lawful root answer token s p out = (inr out, tt)
 
-remove_dir_lawful : (root : PathView) (answer : Answers) (token : List ℕ) (s : State) (p : PathView) → IsOutside root p → IsLawful root answer token s (RemoveDir p)
+remove_dir_lawful : (root : PathView) (answer : CodeAnswers) (token : List ℕ) (s : State) (p : PathView) → IsOutside root p → IsLawful root answer token s (RemoveDir p)
 unfolding IsProperOutside RenamesTrue
 remove_dir_lawful root answer token s p out = (inr out, tt)
 
 -- what takes away a resource outside of a root is lawful in every state
-resource_lawful : (root : PathView) (answer : Answers) (token : List ℕ) (s : State) (m : Move) (k : Kind) (name : List ℕ) → LiesOutside root k name → TakesResource k name m → IsLawful root answer token s m
+resource_lawful : (root : PathView) (answer : CodeAnswers) (token : List ℕ) (s : State) (m : Move) (k : Kind) (name : List ℕ) → LiesOutside root k name → TakesResource k name m → IsLawful root answer token s m
 resource_lawful root answer token s m kind.File name out is = subst (IsLawful root answer token s) (sym is) (remove_lawful root answer token s (path_of name) out)
 resource_lawful root answer token s m kind.Folder name out (inl is) =
     subst (IsLawful root answer token s) (sym is.1) (remove_lawful root answer token s (path_of name ++ is.0 ∷ []) (outside_more root (path_of name) is.0 out.1 out.0))
 resource_lawful root answer token s m kind.Folder name out (inr is) = subst (IsLawful root answer token s) (sym is) (remove_dir_lawful root answer token s (path_of name) out.0)
 resource_lawful root answer token s m kind.Semlock name out is = absurd is
 
-effects_lawful : (root : PathView) (answer : Answers) (token : List ℕ) (s : State) (m : Move) (es : List Effect) → AreOutside root es → TakesForSome es m → IsLawful root answer token s m
+effects_lawful : (root : PathView) (answer : CodeAnswers) (token : List ℕ) (s : State) (m : Move) (es : List Effect) → AreOutside root es → TakesForSome es m → IsLawful root answer token s m
 effects_lawful root answer token s m [] out h = absurd h
 effects_lawful root answer token s m (reports_bad n ∷ es) out (inl h) = absurd h
 effects_lawful root answer token s m (reports_bad n ∷ es) out (inr h) = effects_lawful root answer token s m es out h
@@ -93,7 +93,7 @@ effects_lawful root answer token s m (removes k name ∷ es) out (inr h) = effec
 -- ---- the run
 
 -- what was asked for is lawful for each root that it lies outside of
-pub asked : (answer : Answers) (source : SourceView) (a b : FolderView) → MovesAsked source a b → TakesAsked answer source a b
+pub asked : (answer : CodeAnswers) (source : SourceView) (a b : FolderView) → MovesAsked source a b → TakesAsked answer source a b
 unfolding LawfulThroughout
 asked answer source a b r = record {
   asked = r;
@@ -109,7 +109,7 @@ tracks_nothing source a = record {
   open_line = [];
   read = tt;
   seen = λ s. inl record { input = []; left_is = refl; lines_is = refl; ends = λ more. refl };
-  stops = inl record { first = []; rest = []; split = refl; mid = point a; plays = refl; cut = refl };
+  stops = inl record { first = []; rest = []; split = refl; mid = stage_point a; plays = refl; cut = refl };
 }
 
 pub asks_nothing : (source : SourceView) (v : FolderView) → MovesAsked source v v

@@ -6,7 +6,7 @@ use Rattle.jl_folder.specs.Views.{FolderView, state, moved}
 use Rattle.jl_rely.specs.Steps.{OwnMoves}
 use Rattle.jl_rely.specs.Claims.{GoesOn, Called, Silent}
 use Rattle.jl_entry.specs.Names.{root_of}
-use Rattle.jl_protocol.specs.Whole.{Answers}
+use Rattle.jl_protocol.specs.Whole.{CodeAnswers}
 use Rattle.jl_protocol.specs.Tidy.{IsSound}
 use Rattle.jl_protocol.specs.Proper.{IsLawful, LawfulThroughout}
 use Rattle.jl_store.specs.Calling.{IsCalling}
@@ -21,7 +21,7 @@ use Rattle.jl_cmd.specs.of.Track.{TakesAsked}
 
 -- Own moves are of these kinds. Begun where the cache was sound, each is lawful wherever all steps before it are, and where all steps are the call ends
 -- where the cache is sound.
-abbrev pub CallsLawfully : (location : PathView) → Answers → (Kinds : Move → Type 0) → (old new : FolderView) → Type 0
+abbrev pub CallsLawfully : (location : PathView) → CodeAnswers → (Kinds : Move → Type 0) → (old new : FolderView) → Type 0
 CallsLawfully location answer Kinds old new =
     Called (IsLawful (root_of location) answer) (IsLawful (root_of location) answer) Kinds (IsSound (root_of location) answer) (IsSound (root_of location) answer) old new
 
@@ -30,7 +30,7 @@ abbrev pub IsOfCall : (root : PathView) → (m name token : List ℕ) → Move �
 IsOfCall root m name token move = (key : List ℕ) × (r : Cached) × IsCalling r (record { root = root; module_name = m; function_name = name; key = key }) token move
 
 -- the own moves of a call are of its own function, and lawful throughout
-pub record CallsIn (file location : PathView) (name : List ℕ) (answer : Answers) (old new : FolderView) : Type 0 where
+pub record CallsIn (file location : PathView) (name : List ℕ) (answer : CodeAnswers) (old new : FolderView) : Type 0 where
   pub stays : (m : List ℕ) → module_name_of file ≡ Some m → OwnMoves old.token (IsOfCall (root_of location) m name old.token) (moved old new)
   pub lawful : LawfulThroughout (root_of location) answer old.token (state old) (moved old new)
 

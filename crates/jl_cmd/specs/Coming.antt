@@ -77,8 +77,8 @@ IsComputed o (computed.Refused t) = ⊥
 IsComputed o computed.NoMemory = ⊥
 
 -- and these warnings were added
-abbrev pub HasComputed : Computed → (warnings warnings' : List Warning) → Output → List Warning → Type 0
-HasComputed c ws ws' o added = IsComputed o c × (ws' ≡ ws ++ added)
+abbrev pub ComputedWith : Computed → (warnings warnings' : List Warning) → Output → List Warning → Type 0
+ComputedWith c ws ws' o added = IsComputed o c × (ws' ≡ ws ++ added)
 
 -- a command over the module of this name ended with this output, of which its last text is still to be written, and with the lines of these warnings
 pub record EndsWith (e : Ended) (said : List ℕ) (out out' : SinkView) (m : List ℕ) (o : Output) (added : List Warning) : Type 0 where

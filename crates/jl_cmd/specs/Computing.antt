@@ -20,23 +20,23 @@ Computes o trusted (computed.Refused t) = o ≡ record { bytes = []; status = st
 Computes o trusted computed.NoMemory = Unit {0}
 
 -- what was computed was written: the bytes that are to be printed, or a front of them; nothing of anything else
-abbrev pub Writes : Computed → Ended → (out out' : SinkView) → Type 0
-Writes (computed.Printed t) Done out out' = out.told → out'.written ≡ out.written ++ t
-Writes (computed.Printed t) WriteFault out out' = Rose out.faults out'.faults × (out.told → WritesPrefix t out.written out'.written)
-Writes (computed.Printed t) (Failed u) out out' = ⊥
-Writes (computed.Printed t) ReadFault out out' = ⊥
-Writes (computed.Printed t) Usage out out' = ⊥
-Writes (computed.Printed t) (Refused u) out out' = ⊥
-Writes (computed.Printed t) NoMemory out out' = ⊥
-Writes (computed.Printed t) NoModule out out' = ⊥
-Writes (computed.Printed t) FolderFault out out' = ⊥
-Writes (computed.Failed t) e out out' = (e ≡ Failed t) × WritesNothing out out'
-Writes (computed.Refused t) e out out' = (e ≡ Refused t) × WritesNothing out out'
-Writes computed.NoMemory e out out' = (e ≡ NoMemory) × WritesNothing out out'
+abbrev pub WritesComputed : Computed → Ended → (out out' : SinkView) → Type 0
+WritesComputed (computed.Printed t) Done out out' = out.told → out'.written ≡ out.written ++ t
+WritesComputed (computed.Printed t) WriteFault out out' = Rose out.faults out'.faults × (out.told → WritesPrefix t out.written out'.written)
+WritesComputed (computed.Printed t) (Failed u) out out' = ⊥
+WritesComputed (computed.Printed t) ReadFault out out' = ⊥
+WritesComputed (computed.Printed t) Usage out out' = ⊥
+WritesComputed (computed.Printed t) (Refused u) out out' = ⊥
+WritesComputed (computed.Printed t) NoMemory out out' = ⊥
+WritesComputed (computed.Printed t) NoModule out out' = ⊥
+WritesComputed (computed.Printed t) FolderFault out out' = ⊥
+WritesComputed (computed.Failed t) e out out' = (e ≡ Failed t) × WritesNothing out out'
+WritesComputed (computed.Refused t) e out out' = (e ≡ Refused t) × WritesNothing out out'
+WritesComputed computed.NoMemory e out out' = (e ≡ NoMemory) × WritesNothing out out'
 
 -- the same, unless memory was wanting before anything was written
 abbrev pub WritesWarned : Computed → Ended → (out out' : SinkView) → Type 0
-WritesWarned c e out out' = Writes c e out out' ⊎ ((e ≡ NoMemory) × WritesNothing out out')
+WritesWarned c e out out' = WritesComputed c e out out' ⊎ ((e ≡ NoMemory) × WritesNothing out out')
 
 -- the library's count: it rises by one where the function was called, and not where its value was found
 abbrev pub Counts : Computed → ℕ → ℕ → Type 0

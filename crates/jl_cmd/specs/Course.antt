@@ -4,7 +4,7 @@ use Rattle.jl_text.specs.Counts.{Rose}
 use Rattle.jl_value.specs.declared.library.ModuleFault.{ModuleFault}
 use Rattle.jl_folder.specs.Views.{FolderView, FolderKeeps}
 use Rattle.jl_streams.specs.Views.{SourceView, SinkView, HostView, SourceAnswers, SinkAnswers, SinkKeeps, HostKeeps}
-use Rattle.jl_protocol.specs.Whole.{Answers}
+use Rattle.jl_protocol.specs.Whole.{CodeAnswers}
 
 -- what modules mean to a library: the code of a function and the number of its line, by a module's bytes and a name; why bytes are no module;
 -- and what a code answers on arguments
@@ -12,9 +12,9 @@ pub record Meanings : Type 0 where
   pub code : List ℕ → List ℕ → Option (List ℕ)
   pub line : List ℕ → List ℕ → ℕ
   pub fault : List ℕ → Option ModuleFault
-  pub answer : Answers
+  pub answer : CodeAnswers
 
-abbrev pub meanings : (code : List ℕ → List ℕ → Option (List ℕ)) → (line : List ℕ → List ℕ → ℕ) → (fault : List ℕ → Option ModuleFault) → (answer : Answers) → Meanings
+abbrev pub meanings : (code : List ℕ → List ℕ → Option (List ℕ)) → (line : List ℕ → List ℕ → ℕ) → (fault : List ℕ → Option ModuleFault) → (answer : CodeAnswers) → Meanings
 meanings code line fault answer = record { code = code; line = line; fault = fault; answer = answer }
 
 -- how a call of a function went: the meanings, and the library's count of calls, the folder and the host, before and after
@@ -59,7 +59,7 @@ IsClear old new = old.told × (Rose old.faults new.faults → ⊥)
 
 -- the frame of a run: who told goes on telling, tokens and open numbers stay, counts of faults never fall; that of the input rose exactly where a
 -- read failed, and that of the output exactly where a write did
-pub record Keeps (read_fails write_fails : Type 0) (w : Course) (before after : SinkView) : Type 0 where
+pub record KeepsCourse (read_fails write_fails : Type 0) (w : Course) (before after : SinkView) : Type 0 where
   pub folder : FolderKeeps w.folder w.folder'
   pub host : HostKeeps w.host w.host'
   pub input : SourceAnswers read_fails w.input w.input'

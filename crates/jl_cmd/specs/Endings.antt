@@ -61,13 +61,13 @@ abbrev pub WritesNothing : (out out' : SinkView) → Type 0
 WritesNothing out out' = out.told → out'.written ≡ out.written
 
 -- The output that was computed was written so. A value rests on what is trusted.
-abbrev pub Finishes : Output → (trusted : Type 0) → (out out' : SinkView) → Ended → Type 0
-Finishes o trusted out out' Done = trusted → (o.status ≡ status.done) × (o.text ≡ []) × (out.told → out'.written ≡ out.written ++ o.bytes)
-Finishes o trusted out out' (Failed t) = (o ≡ record { bytes = []; status = status.task_error; text = t }) × WritesNothing out out'
-Finishes o trusted out out' (Refused t) = (o ≡ record { bytes = []; status = status.refused; text = t }) × WritesNothing out out'
-Finishes o trusted out out' WriteFault = Rose out.faults out'.faults × (trusted → (o.status ≡ status.done) × (out.told → WritesPrefix o.bytes out.written out'.written))
-Finishes o trusted out out' NoMemory = WritesNothing out out'
-Finishes o trusted out out' _ = ⊥
+abbrev pub EndsComputed : Output → (trusted : Type 0) → (out out' : SinkView) → Ended → Type 0
+EndsComputed o trusted out out' Done = trusted → (o.status ≡ status.done) × (o.text ≡ []) × (out.told → out'.written ≡ out.written ++ o.bytes)
+EndsComputed o trusted out out' (Failed t) = (o ≡ record { bytes = []; status = status.task_error; text = t }) × WritesNothing out out'
+EndsComputed o trusted out out' (Refused t) = (o ≡ record { bytes = []; status = status.refused; text = t }) × WritesNothing out out'
+EndsComputed o trusted out out' WriteFault = Rose out.faults out'.faults × (trusted → (o.status ≡ status.done) × (out.told → WritesPrefix o.bytes out.written out'.written))
+EndsComputed o trusted out out' NoMemory = WritesNothing out out'
+EndsComputed o trusted out out' _ = ⊥
 
 -- ---- a run
 

@@ -22,16 +22,16 @@ bytes_in (of_module bytes) = bytes
 bytes_in (of_report count bytes) = []
 
 -- the line of the numbers that were met
-abbrev pub line_in : Met → List ℕ
-line_in of_nothing = []
-line_in (of_module bytes) = []
-line_in (of_report count bytes) = report_of count bytes
+abbrev pub report_line : Met → List ℕ
+report_line of_nothing = []
+report_line (of_module bytes) = []
+report_line (of_report count bytes) = report_of count bytes
 
 -- the bytes were read from the file
-abbrev pub HasRead : PathView → (folder folder' : FolderView) → Met → Type 0
-HasRead file folder folder' of_nothing = ⊥
-HasRead file folder folder' (of_module bytes) = folder.told → ReadFrom file bytes folder folder'
-HasRead file folder folder' (of_report count bytes) = ⊥
+abbrev pub ReadModuleFrom : PathView → (folder folder' : FolderView) → Met → Type 0
+ReadModuleFrom file folder folder' of_nothing = ⊥
+ReadModuleFrom file folder folder' (of_module bytes) = folder.told → ReadFrom file bytes folder folder'
+ReadModuleFrom file folder folder' (of_report count bytes) = ⊥
 
 -- so much was taken away
 abbrev pub HasReported : PathView → Limits → Course → Met → Type 0
@@ -41,7 +41,7 @@ HasReported location limits w (of_report count bytes) = IsReported location limi
 
 -- that was met by a run of a command, as it went
 abbrev pub IsMet : Command → Course → Met → Type 0
-IsMet (call file location name args) w met = HasRead file w.folder w.folder' met
+IsMet (call file location name args) w met = ReadModuleFrom file w.folder w.folder' met
 IsMet (hash args) w met = met ≡ of_nothing
 IsMet (clear location m f key) w met = met ≡ of_nothing
 IsMet (reduce_size location limits) w met = HasReported location limits w met
@@ -52,7 +52,7 @@ abbrev pub output_of : Meanings → (input : List ℕ) → Command → Met → O
 output_of means input (call file location name args) met = call_output means (bytes_in met) name args
 output_of means input (hash args) met = hash_output args
 output_of means input (clear location m f key) met = prints_nothing
-output_of means input (reduce_size location limits) met = prints_line (line_in met)
+output_of means input (reduce_size location limits) met = prints_line (report_line met)
 output_of means input tracker met = tracker_output input
 
 -- the same as a run went

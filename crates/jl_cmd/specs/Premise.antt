@@ -10,9 +10,9 @@ use Rattle.jl_cmd.specs.Course.{Course}
 use Rattle.jl_cmd.specs.Needs.{Needs}
 
 -- the folder tells, where a module's file is read in it
-abbrev pub Seen : Option PathView → Course → Type 0
-Seen None w = ⊤
-Seen (Some file) w = w.folder.told
+abbrev pub TellsFile : Option PathView → Course → Type 0
+TellsFile None w = ⊤
+TellsFile (Some file) w = w.folder.told
 
 -- the input tells, where it is read
 abbrev pub Heard : Bool → Course → Type 0
@@ -33,13 +33,13 @@ OthersKeep (Some location) w =
 
 -- what refusals and errors rest on: the folder and the input tell what is read in them
 pub record Stated (n : Needs) (w : Course) : Type 0 where
-  pub told : Seen n.file w
+  pub told : TellsFile n.file w
   pub input : Heard n.reads w
 
 -- what values rest on: the folder and the input tell what is read in them; the cache folder was sound, and each other run's moves were lawful
 -- wherever all moves before them were
 pub record Premise (n : Needs) (w : Course) : Type 0 where
-  pub told : Seen n.file w
+  pub told : TellsFile n.file w
   pub input : Heard n.reads w
   pub sound : SoundCache n.cache w
   pub others : OthersKeep n.cache w

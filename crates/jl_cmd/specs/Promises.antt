@@ -18,8 +18,8 @@ use Rattle.jl_cmd.specs.Uncalled.{IsUncalled}
 use Rattle.jl_cmd.specs.Texts.{error_line}
 
 -- the statuses at which the whole output of a command stands: done, a task error, refused input
-abbrev pub IsWhole : ℕ → Type 0
-IsWhole n = (n ≡ status.done) ⊎ ((n ≡ status.task_error) ⊎ (n ≡ status.refused))
+abbrev pub HasWholeOutput : ℕ → Type 0
+HasWholeOutput n = (n ≡ status.done) ⊎ ((n ≡ status.task_error) ⊎ (n ≡ status.refused))
 
 -- the statuses at which nothing was written
 abbrev pub IsSilent : ℕ → Type 0
@@ -27,7 +27,7 @@ IsSilent n = (n ≡ status.usage) ⊎ ((n ≡ status.no_memory) ⊎ ((n ≡ stat
 
 -- every status that a run may have
 abbrev pub IsStatus : ℕ → Type 0
-IsStatus n = IsWhole n ⊎ (IsSilent n ⊎ (n ≡ status.write_fault))
+IsStatus n = HasWholeOutput n ⊎ (IsSilent n ⊎ (n ≡ status.write_fault))
 
 -- the last text on the error stream at a status that has one text alone
 abbrev pub text_of_status : ℕ → List ℕ
@@ -40,7 +40,7 @@ text_of_status n =
     error_line (codes "folder fault")))))
 
 -- the output is that of what the run met: its bytes, its status and its last text, behind what was said before
-pub record Answers (s : Command) (w : Course) (met : Met) (err err' : SinkView) (n : ℕ) : Type 0 where
+pub record AnswersWhole (s : Command) (w : Course) (met : Met) (err err' : SinkView) (n : ℕ) : Type 0 where
   pub is_met : IsMet s w met
   pub status : (output_in s w met).status ≡ n
   pub written : w.out.told → w.out'.written ≡ w.out.written ++ (output_in s w met).bytes

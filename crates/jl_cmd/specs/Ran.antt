@@ -11,16 +11,16 @@ use Rattle.jl_cmd.specs.declared.ended.Ended.TheVariants.{ReadFault, WriteFault}
 use Rattle.jl_cmd.specs.Caches.{IsIdle, RunsLawfully}
 use Rattle.jl_cmd.specs.Coming.{PutsOut, CallComes}
 use Rattle.jl_cmd.specs.Commands.{Command, call, clear, reduce_size, tracker}
-use Rattle.jl_cmd.specs.Course.{Course, stretch_of, IsClear, Keeps}
+use Rattle.jl_cmd.specs.Course.{Course, stretch_of, IsClear, KeepsCourse}
 use Rattle.jl_cmd.specs.Did.{GivenDid}
 use Rattle.jl_cmd.specs.Endings.{RunEnds, LacksTold, WritesNothing, status_of, last_text}
 use Rattle.jl_cmd.specs.Met.{Met, bytes_in}
 use Rattle.jl_cmd.specs.Needs.{needs_of, AreReading, AreCalling, AreBuffered, UseFolder, UseClock, MayFault}
 use Rattle.jl_cmd.specs.Premise.{Stated, Premise}
-use Rattle.jl_cmd.specs.Promises.{IsWhole, IsSilent, IsStatus, IsComplete, Answers, AnswersFront, IsValid, IsFaultless, CountsCalls, ReadsClock, text_of_status}
+use Rattle.jl_cmd.specs.Promises.{HasWholeOutput, IsSilent, IsStatus, IsComplete, AnswersWhole, AnswersFront, IsValid, IsFaultless, CountsCalls, ReadsClock, text_of_status}
 use Rattle.jl_cmd.specs.Puts.{GivenPuts, IsUnprinted}
 use Rattle.jl_cmd.specs.Reporting.{sink_at, WroteBoth, WroteLast}
-use Rattle.jl_cmd.specs.Saying.{Tells, SaidBy, StatusAt}
+use Rattle.jl_cmd.specs.Saying.{TellsBehind, SaidBy, StatusAt}
 use Rattle.jl_cmd.specs.Statuses as status
 use Rattle.jl_cmd.specs.Uncalled.{IsUncalled}
 use Rattle.jl_cmd.specs.of.Call.{CallLeaves}
@@ -30,7 +30,7 @@ use Rattle.jl_cmd.specs.of.Track.{RunsTracker}
 
 -- What a command has no use for is as it was: the library but for a call, the folder, the host but for its clock, and the input but for the tracker.
 -- And where a call's module was not read, its library and host are.
-pub record LeavesAlone {L F H S : Type 0} (given : Option Command) (Unread : Type 0) (lib lib' : L) (disk disk' : F) (machine machine' : H) (source source' : S) : Type 0 where
+pub record LeavesUnused {L F H S : Type 0} (given : Option Command) (Unread : Type 0) (lib lib' : L) (disk disk' : F) (machine machine' : H) (source source' : S) : Type 0 where
   pub library : (AreCalling given → ⊥) → lib' ≡ lib
   pub folder : (UseFolder given → ⊥) → disk' ≡ disk
   pub host : (UseClock given → ⊥) → machine' ≡ machine
@@ -48,7 +48,7 @@ pub record Ran (given : Option Command) (w : Course) (err : SinkView) (point : S
   pub withholds : AreBuffered given → IsUnprinted e → WritesNothing w.out w.out'
   -- None but a call has lines of warnings; and a command that has no texts of its own leaves the error stream alone.
   pub says : (AreCalling given → ⊥) → said ≡ []
-  pub tells : Tells given err point
+  pub tells : TellsBehind given err point
   -- Who calls nothing leaves the library's count, and who has no use for the clock its moments.
   pub counts : (AreCalling given → ⊥) → w.calls' ≡ w.calls
   pub clock : (UseClock given → ⊥) → w.host.told → w.host'.moments ≡ w.host.moments
@@ -57,7 +57,7 @@ pub record Ran (given : Option Command) (w : Course) (err : SinkView) (point : S
   -- What the command did, by its own record.
   pub did : GivenDid given w met err point e said
   -- What stays, and which counts of faults rose.
-  pub frame : Keeps (e ≡ ReadFault) (e ≡ WriteFault) w err (sink_at err point)
+  pub frame : KeepsCourse (e ≡ ReadFault) (e ≡ WriteFault) w err (sink_at err point)
 
 -- A run that answered this status: some ending has it, before which the run went so; and behind all that was on the error stream by then stand the lines of
 -- warnings and the ending's last text, each of them whole or a first part of it where a fault rose in its own writing.
@@ -76,14 +76,14 @@ pub record Runs (given : Option Command) (w : Course) (err err' : SinkView) (n :
   pub met : Met
   -- The headline: where the cache folder was sound and each other run kept its rules, the whole output stands at the statuses 0, 1 and 3:
   -- that of the module's bytes, under their own code, or the line of what was taken away.
-  pub output : (s : Command) → given ≡ Some s → IsWhole n → Premise (needs_of s) w → Answers s w met err err' n
+  pub output : (s : Command) → given ≡ Some s → HasWholeOutput n → Premise (needs_of s) w → AnswersWhole s w met err err' n
   -- A front of it at a write fault.
   pub write_fault : (s : Command) → given ≡ Some s → n ≡ status.write_fault → Premise (needs_of s) w → AnswersFront s w met
   pub write_fault_rose : n ≡ status.write_fault → Rose w.out.faults w.out'.faults
   -- Nothing at every other status.
   pub nothing : IsSilent n → WritesNothing w.out w.out'
   -- A refusal and an error of the function rest on no cache, and nothing is written then.
-  pub refused : (s : Command) → given ≡ Some s → (n ≡ status.task_error) ⊎ (n ≡ status.refused) → Stated (needs_of s) w → Answers s w met err err' n
+  pub refused : (s : Command) → given ≡ Some s → (n ≡ status.task_error) ⊎ (n ≡ status.refused) → Stated (needs_of s) w → AnswersWhole s w met err err' n
   pub refused_nothing : (n ≡ status.task_error) ⊎ (n ≡ status.refused) → WritesNothing w.out w.out'
   -- Where nothing is refused and nothing failed, the run is complete.
   pub complete : (s : Command) → given ≡ Some s → Stated (needs_of s) w → IsValid s w → IsFaultless w → IsComplete n
@@ -123,4 +123,4 @@ pub record Runs (given : Option Command) (w : Course) (err err' : SinkView) (n :
   -- What `reduce-size` chose, took away and printed.
   pub reduces : (location : PathView) (limits : Limits) → given ≡ Some (reduce_size location limits) → (e : Ended) × (n ≡ status_of e) × ReduceDid location limits w e
   -- What stays, and which counts of faults rose.
-  pub frame : Keeps (n ≡ status.read_fault) (n ≡ status.write_fault) w err err'
+  pub frame : KeepsCourse (n ≡ status.read_fault) (n ≡ status.write_fault) w err err'

@@ -12,7 +12,7 @@ use Rattle.jl_cmd.specs.Statuses as status
 use Rattle.jl_cmd.specs.of.Call.{CallSays}
 
 -- what a command wrote to the error stream by itself: nothing, but for one that has texts of its own, which stand behind the others
-pub record Tells (given : Option Command) (err : SinkView) (point : SinkPoint) : Type 0 where
+pub record TellsBehind (given : Option Command) (err : SinkView) (point : SinkPoint) : Type 0 where
   pub quiet : (AreTelling given → ⊥) → point ≡ sink_point err
   pub behind : IsClear err (sink_at err point) → (said : List ℕ) × (point.written ≡ err.written ++ said)
 

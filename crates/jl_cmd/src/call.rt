@@ -6,7 +6,7 @@ ghost use Rattle.jl_streams.specs.Views.{SinkAnswers, HostKeeps};
 ghost use Rattle.jl_words.specs.ModuleNames.{module_name_of};
 ghost use Rattle.jl_cmd.specs.Texts.{warning_lines};
 ghost use Rattle.jl_cmd.specs.Course.{meanings, stretch};
-ghost use Rattle.jl_cmd.specs.Computing.{Writes, WritesWarned, Counts, Calls};
+ghost use Rattle.jl_cmd.specs.Computing.{WritesComputed, WritesWarned, Counts, Calls};
 ghost use Rattle.jl_cmd.specs.of.Call.{CallEnded};
 
 use crate::compute::compute;
@@ -34,7 +34,7 @@ pub struct Warned {
 
 /// Writes what was computed.
 pub fn finish<O: Sink>(out: &mut O, computed: Computed) -> Ended
-    ensures writes { Writes computed result (O.view out.old) (O.view out.new) }
+    ensures writes { WritesComputed computed result (O.view out.old) (O.view out.new) }
     ensures calls { (old new : ℕ) → Counts computed old new → Calls result old new }
     ensures frame { SinkAnswers (result ≡ Ended.WriteFault) (O.view out.old) (O.view out.new) }
 {

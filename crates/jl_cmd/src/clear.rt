@@ -4,7 +4,7 @@ ghost use Rattle.jl_folder.specs.Views.{FolderAnswers};
 ghost use Rattle.jl_entry.specs.Names.{root_of};
 ghost use Rattle.jl_clear.specs.Cleared.{ClearsPaths};
 ghost use Rattle.jl_words.specs.Targets.{IsTarget};
-ghost use Rattle.jl_cmd.specs.of.Clear.{IsCleared, EndsClearing, Clears};
+ghost use Rattle.jl_cmd.specs.of.Clear.{IsCleared, EndsClearing, ClearsAsked};
 
 use crate::ended::Ended;
 use jl_clear::{Clear, clear_all, clear_function, clear_item, clear_module};
@@ -51,7 +51,7 @@ pub fn clear<F: Folder>(
     requires target { IsTarget «module».now func.now key.now }
     ensures ends { EndsClearing result (F.view folder.old) (F.view folder.new) }
     ensures clears { (F.view folder.old).told
-        → Clears location.now «module».now func.now key.now result (F.view folder.old)
+        → ClearsAsked location.now «module».now func.now key.now result (F.view folder.old)
         (F.view folder.new) }
     ensures frame { FolderAnswers (result ≡ Ended.FolderFault) (F.view folder.old)
         (F.view folder.new) }

@@ -19,7 +19,7 @@ ghost use Rattle.jl_cmd.specs.Course.{meanings, stretch};
 ghost use Rattle.jl_cmd.specs.Output.{call_output, called as called_of, answers, module_fault_of};
 ghost use Rattle.jl_cmd.specs.Caches.{CallsLawfully, IsOfCall};
 ghost use Rattle.jl_cmd.specs.Calling.{LeavesAsked, ComputedAt};
-ghost use Rattle.jl_cmd.specs.Coming.{ComesAsked, HasComputed};
+ghost use Rattle.jl_cmd.specs.Coming.{ComesAsked, ComputedWith};
 ghost use Rattle.jl_cmd.specs.Computing.{Computes, Counts, IsRefusal};
 ghost use Rattle.jl_cmd.specs.of.Call.{ComputesCall};
 
@@ -69,7 +69,7 @@ fn answered<L: Library, F: Folder, H: Host>(
     ensures comes { (c : List ℕ) (n : ℕ) → L.code (L.loaded lib.old) name.now ≡ Some c → L.line (L.loaded lib.old) name.now ≡ n
         → ComputedAt result (ComesAsked (asked memory.now name.now c n args.now) (stretch (meanings L.code L.line L.fault L.answer) (L.calls lib.old) (L.calls lib.new)
         (F.view folder.old) (F.view folder.new) (H.view host.old) (H.view host.new))
-        (HasComputed result warnings.old.items warnings.new.items)) }
+        (ComputedWith result warnings.old.items warnings.new.items)) }
     ensures idle { IsRefusal result → (folder.new ≡ folder.old) × (host.new ≡ host.old) }
     ensures frame { FolderKeeps (F.view folder.old) (F.view folder.new) }
     ensures host { HostKeeps (H.view host.old) (H.view host.new) }

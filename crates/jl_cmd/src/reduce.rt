@@ -5,7 +5,7 @@ ghost use Rattle.jl_streams.specs.Moments.{moments_after};
 ghost use Rattle.jl_streams.specs.Views.{SinkAnswers, HostKeeps};
 ghost use Rattle.jl_entry.specs.Names.{root_of};
 ghost use Rattle.jl_rely.specs.Claims.{Called as CallsFolder, AnyMove, Anywhere};
-ghost use Rattle.jl_protocol.specs.Whole.{Answers};
+ghost use Rattle.jl_protocol.specs.Whole.{CodeAnswers};
 ghost use Rattle.jl_protocol.specs.Proper.{IsProper};
 ghost use Rattle.jl_clear.specs.Taking.{IsTaking};
 ghost use Rattle.jl_evict.specs.Reducing.{IsOfEntry};
@@ -59,7 +59,7 @@ pub fn reduce<F: Folder, O: Sink, H: Host>(
     // Names of entries go, and their folders, and nothing else, whatever others do.
     ensures called { (F.view folder.old).told → CallsFolder (IsProper (root_of location.now)) (IsProper (root_of location.now))
         (IsTaking (root_of location.now) (IsOfEntry (root_of location.now))) Anywhere Anywhere (F.view folder.old) (F.view folder.new) }
-    ensures lawful { (F.view folder.old).told → (answer : Answers)
+    ensures lawful { (F.view folder.old).told → (answer : CodeAnswers)
         → CallsLawfully location.now answer AnyMove (F.view folder.old) (F.view folder.new) }
     ensures frame { FolderAnswers (result ≡ Ended.FolderFault) (F.view folder.old)
         (F.view folder.new) }

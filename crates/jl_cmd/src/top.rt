@@ -8,7 +8,7 @@ ghost use Rattle.jl_cmd.specs.declared.ended.Ended.TheVariants.{NoModule, Folder
 ghost use Rattle.jl_cmd.specs.Needs.{GivenHasModule};
 ghost use Rattle.jl_cmd.specs.Endings.{last_text};
 ghost use Rattle.jl_cmd.specs.Reporting.{WroteBoth};
-ghost use Rattle.jl_cmd.specs.Ran.{Ran, RanTo, Runs, LeavesAlone};
+ghost use Rattle.jl_cmd.specs.Ran.{Ran, RanTo, Runs, LeavesUnused};
 
 use crate::call::{Warned, call, ended, finish};
 use crate::clear::clear;
@@ -42,7 +42,7 @@ fn given<L: Library, F: Folder, S: Source, O: Sink, E: Sink, H: Host>(
         (E.view err.old) (sink_point (E.view err.new)) result.ended result.lines }
     ensures err { SinkKeeps (E.view err.old) (E.view err.new) }
     // What it has no use for it leaves alone.
-    ensures unused { LeavesAlone (command_of settings.now)
+    ensures unused { LeavesUnused (command_of settings.now)
         ((result.ended ≡ NoModule) ⊎ (result.ended ≡ FolderFault))
         lib.old lib.new folder.old folder.new host.old host.new input.old input.new }
 {
@@ -102,7 +102,7 @@ fn command<L: Library, F: Folder, S: Source, O: Sink, E: Sink, H: Host>(
         (S.view input.old) (S.view input.new) (O.view out.old) (O.view out.new))
         (E.view err.old) (sink_point (E.view err.new)) result.ended result.lines }
     ensures err { SinkKeeps (E.view err.old) (E.view err.new) }
-    ensures unused { LeavesAlone (given_by words.now (H.view host.old).processors)
+    ensures unused { LeavesUnused (given_by words.now (H.view host.old).processors)
         ((result.ended ≡ NoModule) ⊎ (result.ended ≡ FolderFault))
         lib.old lib.new folder.old folder.new host.old host.new input.old input.new }
 {
@@ -147,7 +147,7 @@ pub fn run_plain<L: Library, F: Folder, S: Source, O: Sink, E: Sink, H: Host>(
         (S.view input.old) (S.view input.new) (O.view out.old) (O.view out.new))
         (E.view err.old) (E.view err.new) result }
     // What the command has no use for it leaves alone.
-    ensures unused { LeavesAlone (given_by words.now (H.view host.old).processors)
+    ensures unused { LeavesUnused (given_by words.now (H.view host.old).processors)
         ((result ≡ 9) ⊎ (result ≡ 10))
         lib.old lib.new folder.old folder.new host.old host.new input.old input.new }
 {
@@ -183,7 +183,7 @@ pub fn run<L: Library, F: Folder, S: Source, O: Sink, E: Sink, H: Host>(
         (S.view input.old) (S.view input.new) (O.view out.old) (O.view out.new))
         (E.view err.old) (E.view err.new) result }
     // What the command has no use for it leaves alone.
-    ensures unused { LeavesAlone (given_by words.now (H.view host.old).processors)
+    ensures unused { LeavesUnused (given_by words.now (H.view host.old).processors)
         ((result ≡ 9) ⊎ (result ≡ 10))
         lib.old lib.new folder.old folder.new host.old host.new input.old input.new }
 {

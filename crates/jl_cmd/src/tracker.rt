@@ -2,7 +2,7 @@
 ghost use Rattle.std.specs.Prelude.{◌≡◌};
 ghost use Rattle.jl_folder.specs.Views.{FolderKeeps};
 ghost use Rattle.jl_streams.specs.Views.{SourceAnswers, SinkKeeps};
-ghost use Rattle.jl_cmd.specs.of.Track.{EndsTracked, Follows};
+ghost use Rattle.jl_cmd.specs.of.Track.{EndsTracked, FollowsLines};
 
 use crate::ended::Ended;
 use crate::texts::too_much_line;
@@ -34,7 +34,7 @@ pub fn follow<S: Source, F: Folder, E: Sink>(
     folder: &mut F,
     err: &mut E,
 ) -> Ended
-    ensures follows { Follows (S.view input.old) (S.view input.new) (F.view folder.old)
+    ensures follows { FollowsLines (S.view input.old) (S.view input.new) (F.view folder.old)
         (F.view folder.new) (E.view err.old) (E.view err.new) result }
     ensures frame { FolderKeeps (F.view folder.old) (F.view folder.new) }
     ensures input { SourceAnswers (result ≡ Ended.ReadFault) (S.view input.old) (S.view input.new) }

@@ -32,8 +32,8 @@ abbrev pub Members : Type 0
 Members = List (List ℕ × Tree)
 
 -- a key and its value
-abbrev pub Entry : Type 0
-Entry = List ℕ × V
+abbrev pub KeyValue : Type 0
+KeyValue = List ℕ × V
 
 -- the table of an entry: its arguments, its code, the format 1 and its value
 abbrev pub entry_tree : List ℕ → Members → Tree → Tree

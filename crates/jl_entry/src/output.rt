@@ -5,7 +5,7 @@ ghost use Rattle.jl_value.specs.Tree.{Tree, nesting};
 ghost use Rattle.jl_value.specs.Form.{tree_of};
 ghost use Rattle.jl_value.specs.Proper.{IsProper};
 ghost use Rattle.jl_value.specs.Key.{args_tree};
-ghost use Rattle.jl_entry.specs.Entry.{IsEntryOf, entry_tree, FindsParts, entry_text, head_text, IsHeadOf, Members, Entry, IsOutput};
+ghost use Rattle.jl_entry.specs.Entry.{IsEntryOf, entry_tree, FindsParts, entry_text, head_text, IsHeadOf, Members, KeyValue, IsOutput};
 ghost use Rattle.jl_value.specs.Canonical.{text_of};
 
 use jl_text::{Bytes, Text};
@@ -164,7 +164,7 @@ fn last_value(whole: Value) -> Option<Value>
 
 // The value of the last member.
 fn last_member(members: Vec<(Text, Value)>) -> Option<Value>
-    ensures { (before : List Entry) (last : Entry) (t : Tree) → members.items ≡ before ++ last ∷ []
+    ensures { (before : List KeyValue) (last : KeyValue) (t : Tree) → members.items ≡ before ++ last ∷ []
         → tree_of last.1 ≡ t → MatchOption result ⊥ (λ v. tree_of v ≡ t) }
 {
     let mut members = members;

@@ -18,7 +18,7 @@ use Rattle.jl_rely.proofs.Alone.{lone_parts}
 use Rattle.jl_rely.proofs.Moving.{moves_waits, moves_as, moves_called}
 use Rattle.jl_rely.proofs.Seen.{sooner}
 use Rattle.jl_quota.specs.declared.limits.Limits.{Limits}
-use Rattle.jl_protocol.specs.Whole.{Answers}
+use Rattle.jl_protocol.specs.Whole.{CodeAnswers}
 use Rattle.jl_protocol.specs.Proper.{IsProper, IsLawful}
 use Rattle.jl_protocol.specs.Tidy.{IsSound}
 use Rattle.jl_protocol.proofs.Kills.{sound_carried}
@@ -36,7 +36,7 @@ use Rattle.jl_evict.specs.Items.{IsItemPath, AreItems, AreSeen, WereItems}
 use Rattle.jl_evict.specs.Walks.{Adds}
 use Rattle.jl_evict.specs.declared.reducing.Reduced.{Reduced}
 use Rattle.jl_evict.specs.declared.reducing.Reduced.TheVariants as reduced
-use Rattle.jl_evict.specs.Reducing.{ArePaths, IsOf, IsOfEntry, Chosen, clear_of, TakesFrom, EvictsOf, Evicts, Reduces}
+use Rattle.jl_evict.specs.Reducing.{ArePaths, IsOf, IsOfEntry, Chosen, clear_of_reduced, TakesFrom, EvictsOf, Evicts, Reduces}
 use Rattle.jl_evict.proofs.FoundLemmas.{only_among}
 use Rattle.jl_evict.proofs.Naming.{item_parts}
 use Rattle.jl_evict.proofs.SeenLemmas.{seen_as, found_alone, are_lasting}
@@ -109,12 +109,12 @@ paths_chosen read items k same paths = paths_front items k (λ item among. paths
 
 -- ---- by the answer
 
-pub fault_of : (r : Reduced) → clear_of r ≡ Fault → r ≡ reduced.FolderFault
+pub fault_of : (r : Reduced) → clear_of_reduced r ≡ Fault → r ≡ reduced.FolderFault
 fault_of (reduced.Report deleted bytes) f = cc
 fault_of reduced.FolderFault f = refl
 fault_of reduced.NoMemory f = cc
 
-evicts_of : (root : PathView) (limits : Limits) (moment : ℕ) (r : Reduced) (old new : FolderView) → (clear_of r ≡ Cleared → EvictsOf root limits moment r old new) → Evicts root limits moment r old new
+evicts_of : (root : PathView) (limits : Limits) (moment : ℕ) (r : Reduced) (old new : FolderView) → (clear_of_reduced r ≡ Cleared → EvictsOf root limits moment r old new) → Evicts root limits moment r old new
 evicts_of root limits moment (reduced.Report deleted bytes) old new of = of refl
 evicts_of root limits moment reduced.FolderFault old new of = tt
 evicts_of root limits moment reduced.NoMemory old new of = tt
@@ -123,7 +123,7 @@ evicts_of root limits moment reduced.NoMemory old new of = tt
 pub moves_reduce : (root : PathView) (limits : Limits) (moment : ℕ) (r : Reduced) (old new : FolderView) → Moves (IsTaking root (IsOfEntry root)) old new → Evicts root limits moment r old new → Reduces root limits moment r old new
 moves_reduce root limits moment r old new moves evicts = record {
   called = moves_called (IsProper root) (IsProper root) (IsTaking root (IsOfEntry root)) Anywhere old new (taking_proper root (IsOfEntry root) old.token) moves;
-  lawful = λ (answers : Answers).
+  lawful = λ (answers : CodeAnswers).
       called_for (IsLawful root answers) (IsLawful root answers) (IsTaking root (IsOfEntry root)) AnyMove (λ s. IsSound root answers s × Anywhere s) (IsSound root answers) (λ s. IsSound root answers s × Anywhere s) (IsSound root answers) old new
       (λ m is. tt) (λ s sound. (sound, tt)) (λ s both. both.0)
       (called_keeps (IsLawful root answers) (IsLawful root answers) (IsTaking root (IsOfEntry root)) (IsSound root answers) Anywhere Anywhere old new (sound_carried root answers)
@@ -139,7 +139,7 @@ NoPath p = ⊥
 
 module _ (root : PathView) (old mid : FolderView) {Fails : Type 0} (frame : FolderAnswers Fails old mid) (waits : old.told → Waits old mid) where
   -- nothing was taken away
-  pub untaken : (limits : Limits) (moment : ℕ) (r : Reduced) → (clear_of r ≡ Cleared → ⊥) → old.told → Reduces root limits moment r old mid
+  pub untaken : (limits : Limits) (moment : ℕ) (r : Reduced) → (clear_of_reduced r ≡ Cleared → ⊥) → old.told → Reduces root limits moment r old mid
   untaken limits moment r undone t = moves_reduce root limits moment r old mid (moves_waits (IsTaking root (IsOfEntry root)) old mid frame.token (waits t)) (evicts_of root limits moment r old mid (λ done. absurd (undone done)))
 
   module _ (well : Fails → ⊥) (read : List Item) (limits : Limits) (moment : ℕ) (r : Reduced) (new : FolderView) (b : TakesFrom root read limits moment r mid new) where
@@ -154,19 +154,19 @@ module _ (root : PathView) (old mid : FolderView) {Fails : Type 0} (frame : Fold
       alone = λ t done ok lone pre p none. absurd none;
     }
 
-    both : Clears root Anywhere Of Of Of (clear_of r) old new
+    both : Clears root Anywhere Of Of Of (clear_of_reduced r) old new
     both =
-        clears_as root Anywhere Anywhere Of Of (λ p. NoPath p ⊎ Of p) Of (λ p. NoPath p ⊎ Of p) Of (clear_of r) old new (λ s pre. pre) (λ p may. may) (λ p name w. inr w) (λ p store g. inr g)
-        (clears_then root Anywhere Of NoPath Of NoPath Of (clear_of r) old mid new waited b.clears)
+        clears_as root Anywhere Anywhere Of Of (λ p. NoPath p ⊎ Of p) Of (λ p. NoPath p ⊎ Of p) Of (clear_of_reduced r) old new (λ s pre. pre) (λ p may. may) (λ p name w. inr w) (λ p store g. inr g)
+        (clears_then root Anywhere Of NoPath Of NoPath Of (clear_of_reduced r) old mid new waited b.clears)
 
     pub taken_frame : FolderAnswers (r ≡ reduced.FolderFault) old new
-    taken_frame = answers_as old new both.frame (λ e. ap clear_of e) (fault_of r)
+    taken_frame = answers_as old new both.frame (λ e. ap clear_of_reduced e) (fault_of r)
 
     pub taken : (t : old.told) → IsState (state old) → WereItems root read (state old) (moved old mid) → (IsLone old.token (moved old mid) → AreItems root (state old) read) → Reduces root limits moment r old new
     taken t ok seen are =
         let first = goes_waits old mid frame.token (waits t) in
         let second = (b.clears.moves (frame.told t)).went in
-        let all = claims root Of (clear_of r) old new both t ok (λ p of. let e = chosen_entry root (take b.count b.items) b.paths p of in below_more root e.0 p e.2) in
+        let all = claims root Of (clear_of_reduced r) old new both t ok (λ p of. let e = chosen_entry root (take b.count b.items) b.paths p of in below_more root e.0 p e.2) in
         moves_reduce root limits moment r old new (moves_as (IsTaking root Of) (IsTaking root (IsOfEntry root)) (taking_as root Of (IsOfEntry root) (chosen_entry root (take b.count b.items) b.paths)) old new (both.moves t))
         (evicts_of root limits moment r old new
         (λ done. record {

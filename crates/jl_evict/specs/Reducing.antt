@@ -8,7 +8,7 @@ use Rattle.jl_entry.specs.Names.{IsBelow, below}
 use Rattle.jl_rely.specs.Steps.{OwnMoves, IsLone}
 use Rattle.jl_rely.specs.Claims.{Called, Anywhere, AnyMove}
 use Rattle.jl_quota.specs.declared.limits.Limits.{Limits}
-use Rattle.jl_protocol.specs.Whole.{Answers}
+use Rattle.jl_protocol.specs.Whole.{CodeAnswers}
 use Rattle.jl_protocol.specs.Proper.{IsProper, IsLawful}
 use Rattle.jl_protocol.specs.Tidy.{IsTidy, IsSound}
 use Rattle.jl_clear.specs.declared.removing.Clear.{Clear}
@@ -61,10 +61,10 @@ abbrev pub Chosen : (root : PathView) → List Item → PathView → Type 0
 Chosen root items p = (item : Item) × Contains items item × IsOf root item p
 
 -- what was chosen is cleared where it is reported
-abbrev pub clear_of : Reduced → Clear
-clear_of (reduced.Report deleted bytes) = clear.Cleared
-clear_of reduced.FolderFault = clear.Fault
-clear_of reduced.NoMemory = clear.NoMemory
+abbrev pub clear_of_reduced : Reduced → Clear
+clear_of_reduced (reduced.Report deleted bytes) = clear.Cleared
+clear_of_reduced reduced.FolderFault = clear.Fault
+clear_of_reduced reduced.NoMemory = clear.NoMemory
 
 -- these are reported
 abbrev pub IsReportOf : List Item → Reduced → Type 0
@@ -85,7 +85,7 @@ pub record TakesFrom (root : PathView) (read : List Item) (limits : Limits) (mom
   pub choice : IsChoice limits moment items count
   pub paths : ArePaths (take count items)
   pub reports : IsReportOf (take count items) result
-  pub clears : Clears root Anywhere (Chosen root (take count items)) (Chosen root (take count items)) (Chosen root (take count items)) (clear_of result) old new
+  pub clears : Clears root Anywhere (Chosen root (take count items)) (Chosen root (take count items)) (Chosen root (take count items)) (clear_of_reduced result) old new
 
 -- The choice is of items that were seen, and what is reported was chosen. Own moves took away nothing but what was chosen, and each name of the store there went away.
 -- Where no other moved, the items are those of the state, and what was chosen is thinned, and from a tidy state it is gone, and nothing else.
@@ -111,5 +111,5 @@ Evicts root limits moment reduced.NoMemory old new = ⊤
 -- proper in every state, whatever others do, and in the folders of entries alone; and what is reported was taken away
 pub record Reduces (root : PathView) (limits : Limits) (moment : ℕ) (result : Reduced) (old new : FolderView) : Type 0 where
   pub called : Called (IsProper root) (IsProper root) (IsTaking root (IsOfEntry root)) Anywhere Anywhere old new
-  pub lawful : (answers : Answers) → Called (IsLawful root answers) (IsLawful root answers) AnyMove (IsSound root answers) (IsSound root answers) old new
+  pub lawful : (answers : CodeAnswers) → Called (IsLawful root answers) (IsLawful root answers) AnyMove (IsSound root answers) (IsSound root answers) old new
   pub evicts : Evicts root limits moment result old new

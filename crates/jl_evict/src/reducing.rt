@@ -7,7 +7,7 @@ ghost use Rattle.jl_rely.specs.Claims.{Anywhere};
 ghost use Rattle.jl_clear.specs.Clearing.{Clears};
 ghost use Rattle.jl_evict.specs.Choosing.{bytes_of};
 ghost use Rattle.jl_evict.specs.Items.{IsItemPath, held};
-ghost use Rattle.jl_evict.specs.Reducing.{ArePaths, IsOf, Chosen, clear_of, IsReportOf};
+ghost use Rattle.jl_evict.specs.Reducing.{ArePaths, IsOf, Chosen, clear_of_reduced, IsReportOf};
 ghost use Rattle.jl_evict.specs.Reducing.{TakesFrom, Reduces};
 
 use crate::choosing::choose;
@@ -94,7 +94,7 @@ fn held_bytes(items: &[Item]) -> u64
 fn report<F: Folder>(alloc: Global, folder: &mut F, root: &Path, chosen: &[Item]) -> Reduced
     requires { ArePaths chosen.now }
     ensures clears { Clears root.now Anywhere (Chosen root.now chosen.now)
-        (Chosen root.now chosen.now) (Chosen root.now chosen.now) (clear_of result)
+        (Chosen root.now chosen.now) (Chosen root.now chosen.now) (clear_of_reduced result)
         (F.view folder.old) (F.view folder.new) }
     ensures reports { IsReportOf chosen.now result }
 {

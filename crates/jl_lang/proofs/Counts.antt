@@ -9,13 +9,13 @@ use Rattle.jl_lexer.specs.Words.{constant_of, key_in}
 use Rattle.jl_syntax.specs.Trees.{Expression, tall, leaf, bracketed, before, between, choice, index, call, span, list, each, filtered, table, Members, no_members, member, Entries, no_entries, entry}
 use Rattle.jl_builtins.specs.declared.left_side.Settled.{Settled}
 use Rattle.jl_builtins.specs.declared.left_side.Settled.TheVariants.{Known, Open, Wrong, Both}
-use Rattle.jl_operands.specs.Steps.{Ran, done, failed, then', counted, operated, weight}
+use Rattle.jl_operands.specs.Steps.{Evaluated, done, failed, then', counted, operated, weight}
 use Rattle.jl_builtins.specs.Operations.{operation, prefixed, element_of, settle}
 use Rattle.jl_builtins.specs.Calls.{call_value, range_of}
 use Rattle.jl_operands.specs.Lists.{source_of, each_over, picked, filtered_over, over, with_entry}
 use Rattle.jl_lang.specs.Meaning.{argument, named, word_value, truth_counted, settled, chosen, value_of, members_value, entries_value}
 
-abbrev IsLow : Ran → Type 0
+abbrev IsLow : Evaluated → Type 0
 IsLow (done v n) = n ≤ 16777216
 IsLow (failed e) = Unit {0}
 
@@ -30,7 +30,7 @@ operated_low : (n : ℕ) (r : Result Tree TaskError) → IsLow (operated n r)
 operated_low n (Ok v) = counted_low n v
 operated_low n (Err e) = tt
 
-then_low : (r : Ran) (f : Tree → ℕ → Ran) → ((v : Tree) (n : ℕ) → IsLow (f v n)) → IsLow (then' r f)
+then_low : (r : Evaluated) (f : Tree → ℕ → Evaluated) → ((v : Tree) (n : ℕ) → IsLow (f v n)) → IsLow (then' r f)
 then_low (done v n) f h = h v n
 then_low (failed e) f h = tt
 
@@ -46,31 +46,31 @@ truth_low : (v : Tree) (n : ℕ) → IsLow (truth_counted v n)
 truth_low (truth b) n = counted_low n (truth b)
 truth_low _ n = tt
 
-settled_low : (o : Operator) (v : Tree) (s : Settled) (n : ℕ) (right : ℕ → Ran) → IsLow (settled o v s n right)
+settled_low : (o : Operator) (v : Tree) (s : Settled) (n : ℕ) (right : ℕ → Evaluated) → IsLow (settled o v s n right)
 settled_low o v (Known b) n right = counted_low n (truth b)
 settled_low o v Open n right = then_low (right n) truth_counted truth_low
 settled_low o v Wrong n right = tt
 settled_low o v Both n right = then_low (right n) _ (λ w m. operated_low m (operation o v w))
 
-chosen_low : (v : Tree) (n : ℕ) (first last : ℕ → Ran) → IsLow (chosen v n first last)
+chosen_low : (v : Tree) (n : ℕ) (first last : ℕ → Evaluated) → IsLow (chosen v n first last)
 chosen_low (truth true) n first last = then_low (first n) _ (λ v m. counted_low m v)
 chosen_low (truth false) n first last = then_low (last n) _ (λ v m. counted_low m v)
 chosen_low _ n first last = tt
 
-over_low : (o : Option (List Tree)) (of : List Tree → Ran) → ((us : List Tree) → IsLow (of us)) → IsLow (over o of)
+over_low : (o : Option (List Tree)) (of : List Tree → Evaluated) → ((us : List Tree) → IsLow (of us)) → IsLow (over o of)
 over_low None of h = tt
 over_low (Some us) of h = h us
 
-each_low : (of : Tree → ℕ → Ran) (us vs : List Tree) (n : ℕ) → IsLow (each_over of us vs n)
+each_low : (of : Tree → ℕ → Evaluated) (us vs : List Tree) (n : ℕ) → IsLow (each_over of us vs n)
 each_low of [] vs n = counted_low n (listing (items_of vs))
 each_low of (u ∷ us) vs n = then_low (of u n) _ (λ v m. each_low of us (vs ++ v ∷ []) m)
 
-picked_low : (c : Tree) (n : ℕ) (take leave : ℕ → Ran) → ((m : ℕ) → IsLow (take m)) → ((m : ℕ) → IsLow (leave m)) → IsLow (picked c n take leave)
+picked_low : (c : Tree) (n : ℕ) (take leave : ℕ → Evaluated) → ((m : ℕ) → IsLow (take m)) → ((m : ℕ) → IsLow (leave m)) → IsLow (picked c n take leave)
 picked_low (truth true) n take leave h k = h n
 picked_low (truth false) n take leave h k = k n
 picked_low _ n take leave h k = tt
 
-filtered_low : (if_so of : Tree → ℕ → Ran) (us vs : List Tree) (n : ℕ) → IsLow (filtered_over if_so of us vs n)
+filtered_low : (if_so of : Tree → ℕ → Evaluated) (us vs : List Tree) (n : ℕ) → IsLow (filtered_over if_so of us vs n)
 filtered_low if_so of [] vs n = counted_low n (listing (items_of vs))
 filtered_low if_so of (u ∷ us) vs n = then_low (if_so u n) _ (λ c m. picked_low c m _ _ (λ l. then_low (of u l) _ (λ v j. filtered_low if_so of us (vs ++ v ∷ []) j)) (λ l. filtered_low if_so of us vs l))
 

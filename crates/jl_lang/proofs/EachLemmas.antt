@@ -5,18 +5,18 @@ use Rattle.jl_value.specs.Tree.{Tree}
 use Rattle.jl_syntax.specs.Trees.{Expression, each, filtered}
 use Rattle.jl_operands.specs.declared.fault.CallFault.{CallFault}
 use Rattle.jl_operands.specs.declared.counting.Counted.{Counted}
-use Rattle.jl_operands.specs.Steps.{Ran, done, then'}
+use Rattle.jl_operands.specs.Steps.{Evaluated, done, then'}
 use Rattle.jl_operands.specs.Lists.{source_of, each_over, filtered_over, over}
 use Rattle.jl_operands.specs.Outcomes.{IsRan, IsFailing}
 use Rattle.jl_lang.specs.Meaning.{value_of}
 
 -- what goes over the members of a value
-over_members : (r : Ran) (of : List Tree → ℕ → Ran) (v : Tree) (k : ℕ) (us : List Tree) → r ≡ done v k → source_of v ≡ Some us → then' r (λ w m. over (source_of w) (λ ts. of ts m)) ≡ of us k
+over_members : (r : Evaluated) (of : List Tree → ℕ → Evaluated) (v : Tree) (k : ℕ) (us : List Tree) → r ≡ done v k → source_of v ≡ Some us → then' r (λ w m. over (source_of w) (λ ts. of ts m)) ≡ of us k
 over_members r of v k us made members = ap (λ s. then' s (λ w m. over (source_of w) (λ ts. of ts m))) made ∙ ap (λ o. over o (λ ts. of ts k)) members
 
 -- the same answer of what is the same
-answer_by : (r : Result Counted CallFault) (x y : Ran) → x ≡ y → MatchResult r (λ c. IsRan c x) (λ e. IsFailing e x) → MatchResult r (λ c. IsRan c y) (λ e. IsFailing e y)
-answer_by r x y same h = subst (λ (z : Ran). MatchResult r (λ c. IsRan c z) (λ e. IsFailing e z)) same h
+answer_by : (r : Result Counted CallFault) (x y : Evaluated) → x ≡ y → MatchResult r (λ c. IsRan c x) (λ e. IsFailing e x) → MatchResult r (λ c. IsRan c y) (λ e. IsFailing e y)
+answer_by r x y same h = subst (λ (z : Evaluated). MatchResult r (λ c. IsRan c z) (λ e. IsFailing e z)) same h
 
 each_same : (r : Result Counted CallFault) (ps : List (List ℕ × Tree)) (e a : Expression) (x : List ℕ) (n k : ℕ) (v : Tree) (us : List Tree) → value_of ps a n ≡ done v k → source_of v ≡ Some us
     → MatchResult r (λ c. IsRan c (each_over (λ u j. value_of ((x, u) ∷ ps) e j) us [] k)) (λ f. IsFailing f (each_over (λ u j. value_of ((x, u) ∷ ps) e j) us [] k))

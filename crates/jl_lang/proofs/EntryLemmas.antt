@@ -16,7 +16,7 @@ use Rattle.jl_value.specs.Proper.{AreKeys, keys}
 use Rattle.jl_value.specs.declared.value.Value.{Value}
 use Rattle.jl_lexer.specs.Words.{key_in}
 use Rattle.jl_syntax.specs.Trees.{Expression, entries_of}
-use Rattle.jl_operands.specs.Steps.{Ran, done, then'}
+use Rattle.jl_operands.specs.Steps.{Evaluated, done, then'}
 use Rattle.jl_operands.specs.Lists.{with_entry}
 use Rattle.jl_lang.specs.Meaning.{value_of, entries_value}
 use Rattle.jl_operands.specs.Outcomes.{pairs_in}
@@ -48,7 +48,7 @@ keys_with es ns k v w s same text key h =
     (keys_more (pairs_in es) (string_bytes k) (tree_of v) (no_array w (string_bytes k) (key ∙ ap Some (sym text))) h)
 
 -- one entry of a table on
-pub entry_more : {Y : Type 0} (scope : List (List ℕ × Tree)) (entries : List (List ℕ × Expression)) (i : ℕ) (p : List ℕ × Expression) (es ns : List (String Y × Value)) (k : String Y) (v : Value) (n m : ℕ) (s : List ℕ) (x : Ran)
+pub entry_more : {Y : Type 0} (scope : List (List ℕ × Tree)) (entries : List (List ℕ × Expression)) (i : ℕ) (p : List ℕ × Expression) (es ns : List (String Y × Value)) (k : String Y) (v : Value) (n m : ℕ) (s : List ℕ) (x : Evaluated)
     → i < length entries → p ≡ get_or entries i p → ns ≡ insert_entry string_cmp es k v → string_bytes k ≡ s → key_in p.0 ≡ Some s → value_of scope p.1 n ≡ done (tree_of v) m
     → entries_value scope (entries_of (drop i entries)) (pairs_in es) n ≡ x
     → entries_value scope (entries_of (drop (i + 1) entries)) (pairs_in ns) m ≡ x

@@ -18,13 +18,13 @@ use Rattle.jl_syntax.specs.Trees.{Expression, tall, leaf, bracketed, before, bet
 use Rattle.jl_module.specs.Headings.{LineReading, bad, good, definition_in}
 use Rattle.jl_builtins.specs.declared.left_side.Settled.{Settled}
 use Rattle.jl_builtins.specs.declared.left_side.Settled.TheVariants.{Known, Open, Wrong, Both}
-use Rattle.jl_operands.specs.Steps.{Ran, done, failed}
+use Rattle.jl_operands.specs.Steps.{Evaluated, done, failed}
 use Rattle.jl_builtins.specs.Operations.{operation, prefixed, element_of, settle}
 use Rattle.jl_builtins.specs.Calls.{range_of, call_value}
 use Rattle.jl_builtins.specs.TableLaws.{key_good, IsTable, empty_table, entry_table}
 use Rattle.jl_operands.specs.Lists.{source_of, with_entry}
 use Rattle.jl_lang.specs.Meaning.{argument, named, word_value, truth_counted, settled, again, chosen, value_of, members_value, entries_value, limited, has_arguments, has_parameters, answered, answer_of}
-use Rattle.jl_builtins.specs.ProperLaws.{IsDone, AllProper, counted_proper, then_proper, operated_proper, operation_proper, prefixed_proper, element_proper, range_proper, call_proper, all_items, all_more, source_proper, over_proper, each_proper, filtered_proper}
+use Rattle.jl_builtins.specs.ProperLaws.{IsProperRan, AllProper, counted_proper, then_proper, operated_proper, operation_proper, prefixed_proper, element_proper, range_proper, call_proper, all_items, all_more, source_proper, over_proper, each_proper, filtered_proper}
 
 -- ---- what a word writes is proper
 
@@ -82,34 +82,34 @@ argument_proper : (n : List ℕ) (ps : List (List ℕ × Tree)) → AreNamed ps 
 argument_proper n [] h = tt
 argument_proper n (p ∷ ps) h = there_if (bytes_eq n p.0) p.1 (argument n ps) (λ e. h.0) (argument_proper n ps h.1)
 
-named_proper : (n : ℕ) (o : Option Tree) → IfThere o → IsDone (named n o)
+named_proper : (n : ℕ) (o : Option Tree) → IfThere o → IsProperRan (named n o)
 named_proper n None h = tt
 named_proper n (Some v) h = counted_proper n v h
 
-word_proper : (ps : List (List ℕ × Tree)) (w : List ℕ) (o : Option Tree) (n : ℕ) → AreNamed ps → IfThere o → IsDone (word_value ps w o n)
+word_proper : (ps : List (List ℕ × Tree)) (w : List ℕ) (o : Option Tree) (n : ℕ) → AreNamed ps → IfThere o → IsProperRan (word_value ps w o n)
 word_proper ps w (Some v) n h k = counted_proper n v k
 word_proper ps w None n h k = named_proper n (argument w ps) (argument_proper w ps h)
 
-truth_proper : (v : Tree) (n : ℕ) → IsDone (truth_counted v n)
+truth_proper : (v : Tree) (n : ℕ) → IsProperRan (truth_counted v n)
 truth_proper (truth b) n = counted_proper n (truth b) tt
 truth_proper _ n = tt
 
-settled_proper : (o : Operator) (v : Tree) (s : Settled) (n : ℕ) (right : ℕ → Ran) → IsProper v → ((m : ℕ) → IsDone (right m)) → IsDone (settled o v s n right)
+settled_proper : (o : Operator) (v : Tree) (s : Settled) (n : ℕ) (right : ℕ → Evaluated) → IsProper v → ((m : ℕ) → IsProperRan (right m)) → IsProperRan (settled o v s n right)
 settled_proper o v (Known b) n right h k = counted_proper n (truth b) tt
 settled_proper o v Open n right h k = then_proper (right n) truth_counted (k n) (λ w m proper. truth_proper w m)
 settled_proper o v Wrong n right h k = tt
 settled_proper o v Both n right h k = then_proper (right n) _ (k n) (λ w m proper. operated_proper m (operation o v w) (operation_proper o v w h proper))
 
-again_proper : (r : Ran) → IsDone r → IsDone (again r)
+again_proper : (r : Evaluated) → IsProperRan r → IsProperRan (again r)
 again_proper r h = then_proper r _ h (λ v n proper. counted_proper n v proper)
 
-chosen_proper : (v : Tree) (n : ℕ) (first last : ℕ → Ran) → ((m : ℕ) → IsDone (first m)) → ((m : ℕ) → IsDone (last m)) → IsDone (chosen v n first last)
+chosen_proper : (v : Tree) (n : ℕ) (first last : ℕ → Evaluated) → ((m : ℕ) → IsProperRan (first m)) → ((m : ℕ) → IsProperRan (last m)) → IsProperRan (chosen v n first last)
 chosen_proper (truth true) n first last h k = again_proper (first n) (h n)
 chosen_proper (truth false) n first last h k = again_proper (last n) (k n)
 chosen_proper _ n first last h k = tt
 
 mutual
-  value_proper : (ps : List (List ℕ × Tree)) (e : Expression) (n : ℕ) → AreNamed ps → IsDone (value_of ps e n)
+  value_proper : (ps : List (List ℕ × Tree)) (e : Expression) (n : ℕ) → AreNamed ps → IsProperRan (value_of ps e n)
   value_proper ps tall n h = tt
   value_proper ps (leaf w) n h = word_proper ps w (constant_of w) n h (constant_proper w)
   value_proper ps (bracketed e) n h = value_proper ps e n h
@@ -124,11 +124,11 @@ mutual
   value_proper ps (filtered e x a c) n h = then_proper (value_of ps a n) _ (value_proper ps a n h) (λ v m proper. over_proper (source_of v) _ (source_proper v proper) (λ us all. filtered_proper (λ u k. value_of ((x, u) ∷ ps) c k) (λ u k. value_of ((x, u) ∷ ps) e k) us [] m all tt (λ u k also. value_proper ((x, u) ∷ ps) e k (also, h))))
   value_proper ps (tabled es) n h = entries_proper ps es [] n h empty_table
 
-  members_proper : (ps : List (List ℕ × Tree)) (ms : Listing) (vs : List Tree) (n : ℕ) → AreNamed ps → AllProper vs → IsDone (members_value ps ms vs n)
+  members_proper : (ps : List (List ℕ × Tree)) (ms : Listing) (vs : List Tree) (n : ℕ) → AreNamed ps → AllProper vs → IsProperRan (members_value ps ms vs n)
   members_proper ps none_listed vs n h k = counted_proper n (list (items_of vs)) (all_items vs k)
   members_proper ps (listing e ms) vs n h k = then_proper (value_of ps e n) _ (value_proper ps e n h) (λ v m proper. members_proper ps ms (vs ++ v ∷ []) m h (all_more vs v k proper))
 
-  entries_proper : (ps : List (List ℕ × Tree)) (es : Entries) (kvs : List (List ℕ × Tree)) (n : ℕ) → AreNamed ps → IsTable kvs → IsDone (entries_value ps es kvs n)
+  entries_proper : (ps : List (List ℕ × Tree)) (es : Entries) (kvs : List (List ℕ × Tree)) (n : ℕ) → AreNamed ps → IsTable kvs → IsProperRan (entries_value ps es kvs n)
   entries_proper ps no_entries kvs n h k = counted_proper n (table (members_of kvs)) k
   entries_proper ps (entry w e es) kvs n h k = then_proper (value_of ps e n) _ (value_proper ps e n h) (λ v m proper. entries_proper ps es (with_entry (key_in w) v kvs) m h (entry_table (key_in w) v kvs (key_good w) proper k))
 
@@ -142,7 +142,7 @@ limits_if true long v h p q = tt
 limits_if false true v h p q = tt
 limits_if false false v h p q = (h, p refl, q refl)
 
-limited_within : (r : Ran) → IsDone r → IsWithin (limited r)
+limited_within : (r : Evaluated) → IsProperRan r → IsWithin (limited r)
 limited_within (done v n) h = limits_if (nat_lt 64 (nesting v)) (nat_lt 1048576 (length (text_of v))) v h (not_over 64 (nesting v)) (not_over 1048576 (length (text_of v)))
 limited_within (failed e) h = tt
 

@@ -12,7 +12,7 @@ use Rattle.jl_syntax.specs.Trees.{Expression, tall, leaf, bracketed, before, bet
 use Rattle.jl_module.specs.Headings.{Definition, LineReading, bad, good, definition_in}
 use Rattle.jl_builtins.specs.declared.left_side.Settled.{Settled}
 use Rattle.jl_builtins.specs.declared.left_side.Settled.TheVariants.{Known, Open, Wrong, Both}
-use Rattle.jl_operands.specs.Steps.{Ran, done, failed, then', counted, operated}
+use Rattle.jl_operands.specs.Steps.{Evaluated, done, failed, then', counted, operated}
 use Rattle.jl_builtins.specs.Operations.{operation, prefixed, element_of, settle}
 use Rattle.jl_builtins.specs.Calls.{call_value, range_of}
 use Rattle.jl_operands.specs.Lists.{source_of, each_over, filtered_over, over, with_entry}
@@ -23,40 +23,40 @@ argument n [] = None
 argument n (p ∷ ps) = if bytes_eq n p.0 then Some p.1 else argument n ps
 
 -- the value that a name stands for, where it stands for one
-abbrev pub named : ℕ → Option Tree → Ran
+abbrev pub named : ℕ → Option Tree → Evaluated
 named n None = failed NoArgument
 named n (Some v) = counted n v
 
 -- the value of a word: what it writes, or the argument that it names
-abbrev pub word_value : List (List ℕ × Tree) → List ℕ → Option Tree → ℕ → Ran
+abbrev pub word_value : List (List ℕ × Tree) → List ℕ → Option Tree → ℕ → Evaluated
 word_value ps w (Some v) n = counted n v
 word_value ps w None n = named n (argument w ps)
 
 -- a truth, as the right side of `or` and `and` is to be
-abbrev pub truth_counted : Tree → ℕ → Ran
+abbrev pub truth_counted : Tree → ℕ → Evaluated
 truth_counted (truth b) n = counted n (truth b)
 truth_counted _ n = failed BadKind
 
 -- an operation, from its left side, the count behind it, and what the right side comes to
-abbrev pub settled : Operator → Tree → Settled → ℕ → (ℕ → Ran) → Ran
+abbrev pub settled : Operator → Tree → Settled → ℕ → (ℕ → Evaluated) → Evaluated
 settled o v (Known b) n right = counted n (truth b)
 settled o v Open n right = then' (right n) truth_counted
 settled o v Wrong n right = failed BadKind
 settled o v Both n right = then' (right n) (λ w m. operated m (operation o v w))
 
 -- a value that is counted once more
-abbrev pub again : Ran → Ran
+abbrev pub again : Evaluated → Evaluated
 again r = then' r (λ v n. counted n v)
 
 -- one of two branches, by a condition
-abbrev pub chosen : Tree → ℕ → (ℕ → Ran) → (ℕ → Ran) → Ran
+abbrev pub chosen : Tree → ℕ → (ℕ → Evaluated) → (ℕ → Evaluated) → Evaluated
 chosen (truth true) n first last = again (first n)
 chosen (truth false) n first last = again (last n)
 chosen _ n first last = failed BadKind
 
 -- the value of an expression behind a count of steps: its parts from left to right, each value counted before it is made
 abbrev mutual
-  pub value_of : List (List ℕ × Tree) → Expression → ℕ → Ran
+  pub value_of : List (List ℕ × Tree) → Expression → ℕ → Evaluated
   value_of ps tall n = failed BadKind
   value_of ps (leaf w) n = word_value ps w (constant_of w) n
   value_of ps (bracketed e) n = value_of ps e n
@@ -72,17 +72,17 @@ abbrev mutual
   value_of ps (tabled es) n = entries_value ps es [] n
 
   -- a list, whose first members are these
-  pub members_value : List (List ℕ × Tree) → Members → List Tree → ℕ → Ran
+  pub members_value : List (List ℕ × Tree) → Members → List Tree → ℕ → Evaluated
   members_value ps no_members vs n = counted n (list (items_of vs))
   members_value ps (member e ms) vs n = then' (value_of ps e n) (λ v m. members_value ps ms (vs ++ v ∷ []) m)
 
   -- a table, which has these members so far
-  pub entries_value : List (List ℕ × Tree) → Entries → List (List ℕ × Tree) → ℕ → Ran
+  pub entries_value : List (List ℕ × Tree) → Entries → List (List ℕ × Tree) → ℕ → Evaluated
   entries_value ps no_entries kvs n = counted n (table (members_of kvs))
   entries_value ps (entry k e es) kvs n = then' (value_of ps e n) (λ v m. entries_value ps es (with_entry (key_in k) v kvs) m)
 
 -- a value may nest 64 deep, and its text may have 2 ^ 20 bytes
-abbrev pub limited : Ran → Answer
+abbrev pub limited : Evaluated → Answer
 limited (failed e) = error e
 limited (done v n) = if nat_lt 64 (nesting v) then error TooDeep else (if nat_lt 1048576 (length (text_of v)) then error TooLong else value v)
 

@@ -10,7 +10,7 @@ ghost use Rattle.jl_builtins.specs.Operations.{settle as settle_of};
 ghost use Rattle.jl_lang.specs.Scopes.{scope_of};
 ghost use Rattle.jl_operands.specs.Lists.{each_over as each_over_of, filtered_over as filtered_over_of, wholes};
 ghost use Rattle.jl_operands.specs.Operands.{tree_of_operand, trees_gathered};
-ghost use Rattle.jl_operands.specs.Outcomes.{Runs};
+ghost use Rattle.jl_operands.specs.Outcomes.{Evaluates};
 ghost use Rattle.jl_lang.specs.Outcomes.{IsTaken, IsLeft};
 
 use crate::scope::Scope;
@@ -38,7 +38,7 @@ fn argument_value(
     name: &[u8],
     steps: Steps,
 ) -> Result<Counted, CallFault>
-    ensures { Runs result (named_of steps (argument_of name.now (scope_of scope.now))) }
+    ensures { Evaluates result (named_of steps (argument_of name.now (scope_of scope.now))) }
 {
     match scope.value(name) {
         Some(value) => count_copy(alloc, value, steps),
@@ -47,7 +47,7 @@ fn argument_value(
 }
 
 fn word_value(alloc: Global, scope: &Scope, word: &Word, steps: Steps) -> Result<Counted, CallFault>
-    ensures { Runs result
+    ensures { Evaluates result
         (word_value_of (scope_of scope.now) word.now (constant_of word.now) steps) }
 {
     match word.value() {
@@ -57,7 +57,7 @@ fn word_value(alloc: Global, scope: &Scope, word: &Word, steps: Steps) -> Result
 }
 
 fn count_truth(right: Counted) -> Result<Counted, CallFault>
-    ensures { Runs result (truth_counted_of (tree_of_operand right.value) right.steps) }
+    ensures { Evaluates result (truth_counted_of (tree_of_operand right.value) right.steps) }
 {
     match right.value.as_truth() {
         Some(truth) => count_value(Value::Truth(truth), right.steps),
@@ -73,7 +73,7 @@ fn before(
     inner: &Tree,
     steps: Steps,
 ) -> Result<Counted, CallFault>
-    ensures { Runs result (value_of (scope_of scope.now) (before_tree prefix inner.now) steps) }
+    ensures { Evaluates result (value_of (scope_of scope.now) (before_tree prefix inner.now) steps) }
 {
     let value = evaluate(alloc, scope, inner, steps)?;
     operate_prefix(prefix, &value.value, value.steps)
@@ -88,7 +88,7 @@ fn both(
     right: &Tree,
     steps: Steps,
 ) -> Result<Counted, CallFault>
-    ensures { Runs result
+    ensures { Evaluates result
         (settled_of operator (tree_of_operand left.now) Both steps
         (value_of (scope_of scope.now) right.now)) }
 {
@@ -105,7 +105,7 @@ fn behind_left(
     right: &Tree,
     steps: Steps,
 ) -> Result<Counted, CallFault>
-    ensures { Runs result
+    ensures { Evaluates result
         (settled_of operator (tree_of_operand left.now) (settle_of operator (tree_of_operand left.now)) steps
         (value_of (scope_of scope.now) right.now)) }
 {
@@ -126,7 +126,7 @@ fn between(
     right: &Tree,
     steps: Steps,
 ) -> Result<Counted, CallFault>
-    ensures { Runs result
+    ensures { Evaluates result
         (value_of (scope_of scope.now) (between_tree operator left.now right.now) steps) }
 {
     let left = evaluate(alloc, scope, left, steps)?;
@@ -140,7 +140,7 @@ fn count_again(
     tree: &Tree,
     steps: Steps,
 ) -> Result<Counted, CallFault>
-    ensures { Runs result (again (value_of (scope_of scope.now) tree.now steps)) }
+    ensures { Evaluates result (again (value_of (scope_of scope.now) tree.now steps)) }
 {
     let value = evaluate(alloc, scope, tree, steps)?;
     count_operand(value.value, value.steps)
@@ -155,7 +155,7 @@ fn choice(
     last: &Tree,
     steps: Steps,
 ) -> Result<Counted, CallFault>
-    ensures { Runs result
+    ensures { Evaluates result
         (value_of (scope_of scope.now) (choice_tree first.now condition.now last.now) steps) }
 {
     let condition = evaluate(alloc, scope, condition, steps)?;
@@ -174,7 +174,7 @@ fn index(
     at: &Tree,
     steps: Steps,
 ) -> Result<Counted, CallFault>
-    ensures { Runs result (value_of (scope_of scope.now) (index_tree whole.now at.now) steps) }
+    ensures { Evaluates result (value_of (scope_of scope.now) (index_tree whole.now at.now) steps) }
 {
     let whole = evaluate(alloc, scope, whole, steps)?;
     let at = evaluate(alloc, scope, at, whole.steps)?;
@@ -189,7 +189,7 @@ fn call_value(
     member: &Tree,
     steps: Steps,
 ) -> Result<Counted, CallFault>
-    ensures { Runs result (value_of (scope_of scope.now) (call_tree function member.now) steps) }
+    ensures { Evaluates result (value_of (scope_of scope.now) (call_tree function member.now) steps) }
 {
     let member = evaluate(alloc, scope, member, steps)?;
     call(alloc, function, &member.value, member.steps)
@@ -203,7 +203,7 @@ fn range_value(
     end: &Tree,
     steps: Steps,
 ) -> Result<Counted, CallFault>
-    ensures { Runs result (value_of (scope_of scope.now) (span_tree first.now end.now) steps) }
+    ensures { Evaluates result (value_of (scope_of scope.now) (span_tree first.now end.now) steps) }
 {
     let first = evaluate(alloc, scope, first, steps)?;
     let end = evaluate(alloc, scope, end, first.steps)?;
@@ -217,7 +217,7 @@ fn list_value(
     members: &[Tree],
     start: Steps,
 ) -> Result<Counted, CallFault>
-    ensures { Runs result (members_value (scope_of scope.now) (members_of members.now) [] start) }
+    ensures { Evaluates result (members_value (scope_of scope.now) (members_of members.now) [] start) }
 {
     let mut values = Gathered::new(alloc);
     let mut steps = start;
@@ -236,7 +236,7 @@ fn table_value(
     entries: &[(Key, Tree)],
     start: Steps,
 ) -> Result<Counted, CallFault>
-    ensures { Runs result (entries_value (scope_of scope.now) (entries_in entries.now) [] start) }
+    ensures { Evaluates result (entries_value (scope_of scope.now) (entries_in entries.now) [] start) }
 {
     let mut members = BTreeMap::new(alloc);
     let mut steps = start;
@@ -258,7 +258,7 @@ fn list_over_values<'a>(
     items: &'a [Value],
     start: Steps,
 ) -> Result<Counted, CallFault>
-    ensures { Runs result
+    ensures { Evaluates result
         (each_over_of (λ u k. value_of ((variable.now, u) ∷ scope_of scope.now) member.now k)
         (trees_of items.now) [] start) }
 {
@@ -283,7 +283,7 @@ fn at_number(
     number: i64,
     steps: Steps,
 ) -> Result<Counted, CallFault>
-    ensures { Runs result
+    ensures { Evaluates result
         (value_of ((variable.now, whole number) ∷ scope_of scope.now) member.now steps) }
 {
     let item = Value::Whole(number);
@@ -300,7 +300,7 @@ fn list_over_numbers(
     numbers: &[i64],
     start: Steps,
 ) -> Result<Counted, CallFault>
-    ensures { Runs result
+    ensures { Evaluates result
         (each_over_of (λ u k. value_of ((variable.now, u) ∷ scope_of scope.now) member.now k)
         (wholes numbers.now) [] start) }
 {
@@ -323,7 +323,7 @@ fn list_over(
     items: &Gathered,
     start: Steps,
 ) -> Result<Counted, CallFault>
-    ensures { Runs result
+    ensures { Evaluates result
         (each_over_of (λ u k. value_of ((variable.now, u) ∷ scope_of scope.now) member.now k)
         (trees_gathered items.now) [] start) }
 {
@@ -346,7 +346,7 @@ fn list_of_each(
     over: &Tree,
     steps: Steps,
 ) -> Result<Counted, CallFault>
-    ensures { Runs result
+    ensures { Evaluates result
         (value_of (scope_of scope.now) (each_tree member.now variable.now over.now) steps) }
 {
     let over = evaluate(alloc, scope, over, steps)?;
@@ -397,7 +397,7 @@ fn filter_over_values<'a>(
     condition: &Tree,
     start: Steps,
 ) -> Result<Counted, CallFault>
-    ensures { Runs result
+    ensures { Evaluates result
         (filtered_over_of
         (λ u k. value_of ((variable.now, u) ∷ scope_of scope.now) condition.now k)
         (λ u k. value_of ((variable.now, u) ∷ scope_of scope.now) member.now k)
@@ -455,7 +455,7 @@ fn filter_over_numbers(
     condition: &Tree,
     start: Steps,
 ) -> Result<Counted, CallFault>
-    ensures { Runs result
+    ensures { Evaluates result
         (filtered_over_of
         (λ u k. value_of ((variable.now, u) ∷ scope_of scope.now) condition.now k)
         (λ u k. value_of ((variable.now, u) ∷ scope_of scope.now) member.now k)
@@ -481,7 +481,7 @@ fn filter_over(
     condition: &Tree,
     start: Steps,
 ) -> Result<Counted, CallFault>
-    ensures { Runs result
+    ensures { Evaluates result
         (filtered_over_of
         (λ u k. value_of ((variable.now, u) ∷ scope_of scope.now) condition.now k)
         (λ u k. value_of ((variable.now, u) ∷ scope_of scope.now) member.now k)
@@ -519,7 +519,7 @@ fn list_of_some(
     condition: &Tree,
     steps: Steps,
 ) -> Result<Counted, CallFault>
-    ensures { Runs result
+    ensures { Evaluates result
         (value_of (scope_of scope.now)
         (filtered_tree member.now variable.now over.now condition.now) steps) }
 {
@@ -544,7 +544,7 @@ pub(crate) fn evaluate(
     tree: &Tree,
     steps: Steps,
 ) -> Result<Counted, CallFault>
-    ensures { Runs result (value_of (scope_of scope.now) tree.now steps) }
+    ensures { Evaluates result (value_of (scope_of scope.now) tree.now steps) }
 {
     match tree.node() {
         Node::Tall => Err(CallFault::Task(TaskError::BadKind)),

@@ -6,7 +6,7 @@ use Rattle.jl_streams.specs.Views.{SourceView}
 use Rattle.jl_lines.specs.declared.reader.NextLine.{NextLine}
 use Rattle.jl_lines.specs.declared.reader.NextLine.TheVariants as next_line
 use Rattle.jl_lines.specs.Lines.{is_newline, has_newline, first_line, behind_line, body_of, put_before, lines_of}
-use Rattle.jl_lines.specs.Steps.{ReaderView, waiting, is_long, KnowsEnd, Answers, NextStep, LeftIs, Follows}
+use Rattle.jl_lines.specs.Steps.{ReaderView, waiting, is_long, KnowsEnd, AnswersOver, NextStep, LeftIs, TakesLine}
 use Rattle.jl_lines.proofs.StepLemmas.{of_or}
 
 -- bytes that aren't none have a first line
@@ -50,7 +50,7 @@ within_of m n e = elim (leb_tells n m) [
 ]
 
 -- a step's answer is that of the lines ahead, where the source tells
-pub step_follows : (old new : ReaderView) (x y : SourceView) (answer : NextLine) → x.told → KnowsEnd old x → NextStep old new x y answer → Follows old answer (waiting old ++ x.left) (waiting new ++ y.left)
+pub step_follows : (old new : ReaderView) (x y : SourceView) (answer : NextLine) → x.told → KnowsEnd old x → NextStep old new x y answer → TakesLine old answer (waiting old ++ x.left) (waiting new ++ y.left)
 step_follows old new x y answer t knows s = go answer (s.left_is t) s.answer_is
   where
     bytes : List ℕ
@@ -66,7 +66,7 @@ step_follows old new x y answer t knows s = go answer (s.left_is t) s.answer_is
     at_end : new.ended ≡ not (has_newline bytes) → has_newline bytes ≡ false → y.left ≡ []
     at_end ended none = s.end_is t knows (ended ∙ ap not none)
 
-    go : (answer : NextLine) → LeftIs answer s.got x y → Answers old new (waiting old ++ s.got) answer → Follows old answer (waiting old ++ x.left) (waiting new ++ y.left)
+    go : (answer : NextLine) → LeftIs answer s.got x y → AnswersOver old new (waiting old ++ s.got) answer → TakesLine old answer (waiting old ++ x.left) (waiting new ++ y.left)
     go (next_line.Line number body) e h =
         let all = ahead e in
         let w = whole_first (waiting old ++ s.got) y.left (at_end h.0.ended_is) in (

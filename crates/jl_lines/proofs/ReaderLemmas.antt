@@ -6,7 +6,7 @@ use Rattle.jl_streams.specs.Views.{SourceView}
 use Rattle.jl_lines.specs.declared.reader.NextLine.{NextLine}
 use Rattle.jl_lines.specs.declared.reader.NextLine.TheVariants as next_line
 use Rattle.jl_lines.specs.Lines.{has_newline, first_line, behind_line, body_of}
-use Rattle.jl_lines.specs.Steps.{ReaderView, waiting, is_long, is_over, Answers, IsSettled, Settles, Looks, EndsAt, NextStep, LeftIs}
+use Rattle.jl_lines.specs.Steps.{ReaderView, waiting, is_long, is_over, AnswersOver, NeedsNoRead, Settles, LooksOver, EndsAt, NextStep, LeftIs}
 use Rattle.jl_lines.proofs.LineLemmas.{first_line-append, behind_line-append, body_of-append, has_newline-append, first_line_all}
 
 -- of two tests of which neither passes
@@ -98,10 +98,10 @@ front_goes_on v none none' =
 
 -- the line at the front is too long, and nothing of it is kept
 pub looks_long : (old new : ReaderView) → old.ended ≡ false → has_newline old.front ≡ false → has_newline old.rest ≡ false → is_over old (length old.rest) ≡ true
-    → new ≡ record { limit = old.limit; taken = old.taken; lines = old.lines; long = true; ended = old.ended; front = []; rest = [] } → Looks old new
+    → new ≡ record { limit = old.limit; taken = old.taken; lines = old.lines; long = true; ended = old.ended; front = []; rest = [] } → LooksOver old new
 looks_long old new going none none' over new_is =
     let f = front_goes_on old none none' in
-    subst (λ v. Looks old v) (sym new_is) record {
+    subst (λ v. LooksOver old v) (sym new_is) record {
       limit_is = refl;
       taken_is = refl;
       going = going;
@@ -112,10 +112,10 @@ looks_long old new going none none' over new_is =
 
 -- the line at the front goes on, and all of it is kept
 pub looks_short : (old new : ReaderView) → old.ended ≡ false → has_newline old.front ≡ false → has_newline old.rest ≡ false → is_over old (length old.rest) ≡ false
-    → new ≡ record { limit = old.limit; taken = old.taken; lines = old.lines; long = old.long; ended = old.ended; front = old.front ++ old.rest; rest = [] } → Looks old new
+    → new ≡ record { limit = old.limit; taken = old.taken; lines = old.lines; long = old.long; ended = old.ended; front = old.front ++ old.rest; rest = [] } → LooksOver old new
 looks_short old new going none none' short new_is =
     let f = front_goes_on old none none' in
-    subst (λ v. Looks old v) (sym new_is) record {
+    subst (λ v. LooksOver old v) (sym new_is) record {
       limit_is = refl;
       taken_is = refl;
       going = going;
@@ -129,7 +129,7 @@ looks_short old new going none none' short new_is =
     }
 
 -- an answer that needs no read leaves the source where it was
-left_still : (answer : NextLine) (x y : SourceView) → IsSettled answer → x.left ≡ y.left → LeftIs answer [] x y
+left_still : (answer : NextLine) (x y : SourceView) → NeedsNoRead answer → x.left ≡ y.left → LeftIs answer [] x y
 left_still (next_line.Line number body) x y k e = e
 left_still (next_line.TooLong number) x y k e = e
 left_still next_line.End x y k e = e
@@ -146,5 +146,5 @@ settles_step ended old new x y answer s same end = record {
   most = s.most;
   left_is = λ t. left_still answer x y s.kind (same t);
   end_is = λ t knows met. end (sym s.ended_is ∙ met) t;
-  answer_is = subst (λ bytes. Answers old new bytes answer) (sym (append-nil (waiting old))) s.answer_is;
+  answer_is = subst (λ bytes. AnswersOver old new bytes answer) (sym (append-nil (waiting old))) s.answer_is;
 }

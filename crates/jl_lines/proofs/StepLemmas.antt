@@ -8,7 +8,7 @@ use Rattle.jl_lines.specs.declared.reader.NextLine.{NextLine}
 use Rattle.jl_lines.specs.declared.reader.NextLine.TheVariants as next_line
 use Rattle.jl_lines.specs.Lines.{has_newline, first_line, behind_line, body_of}
 use Rattle.jl_lines.specs.Readers.{IsReader}
-use Rattle.jl_lines.specs.Steps.{ReaderView, waiting, is_long, KnowsEnd, Passes, Keeps, Answers, Settles, Looks, Stands, Goes, Advances, Gets, NextStep, LeftIs}
+use Rattle.jl_lines.specs.Steps.{ReaderView, waiting, is_long, KnowsEnd, Passes, KeepsBytes, AnswersOver, Settles, LooksOver, AnswersAlike, Goes, Advances, Gets, NextStep, LeftIs}
 use Rattle.jl_lines.proofs.LineLemmas.{first_line-append, behind_line-append, has_newline-append, first_line_all, body_of_all, behind_line_all}
 use Rattle.jl_lines.proofs.ReaderLemmas.{first_false}
 
@@ -32,7 +32,7 @@ not_zero n e = elim (eqb_tells n 0) [
 ]
 
 -- a reader that looked at all its bytes stays as it is
-pub stays : (v : ReaderView) → IsReader v → v.rest ≡ [] → (has_newline (waiting v) ≡ false) × (is_long v (waiting v) ≡ v.long) × Keeps v v (waiting v)
+pub stays : (v : ReaderView) → IsReader v → v.rest ≡ [] → (has_newline (waiting v) ≡ false) × (is_long v (waiting v) ≡ v.long) × KeepsBytes v v (waiting v)
 stays v r e = (none, long, record { lines_is = refl; long_is = sym long; waiting_is = kept ∙ sym (ap (λ b. cond b [] (waiting v)) long) })
   where
     is : waiting v ≡ v.front
@@ -72,7 +72,7 @@ fault_step old new x y r going e same still =
       most = r.most;
       left_is = λ t. sym (still t);
       end_is = λ t knows. knows_none old y going;
-      answer_is = subst (λ bytes. Answers old old bytes next_line.ReadFault) (sym (append-nil (waiting old))) (s.2, s.0, going);
+      answer_is = subst (λ bytes. AnswersOver old old bytes next_line.ReadFault) (sym (append-nil (waiting old))) (s.2, s.0, going);
     }
 
 -- there was no memory to read into
@@ -86,7 +86,7 @@ no_memory_step old new x y r going e same still =
       most = r.most;
       left_is = λ t. sym still;
       end_is = λ t knows. knows_none old y going;
-      answer_is = subst (λ bytes. Answers old old bytes next_line.NoMemory) (sym (append-nil (waiting old))) (s.2, going);
+      answer_is = subst (λ bytes. AnswersOver old old bytes next_line.NoMemory) (sym (append-nil (waiting old))) (s.2, going);
     }
 
 -- a byte too many was there
@@ -100,7 +100,7 @@ too_much_step old new x y r going e same full more =
       most = r.most;
       left_is = more;
       end_is = λ t knows. knows_none old y going;
-      answer_is = subst (λ bytes. Answers old old bytes next_line.TooMuch) (sym (append-nil (waiting old))) (s.2, s.0, going, full);
+      answer_is = subst (λ bytes. AnswersOver old old bytes next_line.TooMuch) (sym (append-nil (waiting old))) (s.2, s.0, going, full);
     }
 
 -- one byte fewer is left
@@ -139,7 +139,7 @@ over_step v x r met =
       most = r.most;
       left_is = λ t. refl;
       end_is = λ t knows. knows;
-      answer_is = subst (λ bytes. Answers v v bytes next_line.End) (sym (append-nil (waiting v))) ((stays v r over.2).2, over.0, nothing, met);
+      answer_is = subst (λ bytes. AnswersOver v v bytes next_line.End) (sym (append-nil (waiting v))) ((stays v r over.2).2, over.0, nothing, met);
     }
 
 -- there was no memory to keep the bytes that wait
@@ -161,7 +161,7 @@ keeps_all old new going r none same short not_long =
     is_short = (λ i. not_long i || nat_lt old.limit (length (first_line_all (waiting old) all i))) ∙ ap (nat_lt old.limit) (length-append old.front old.rest) ∙ short
 
 -- one reader after another
-pub stands_trans : (a b c : ReaderView) (x y z : List ℕ) → Stands a b x y → Stands b c y z → Stands a c x z
+pub stands_trans : (a b c : ReaderView) (x y z : List ℕ) → AnswersAlike a b x y → AnswersAlike b c y z → AnswersAlike a c x z
 stands_trans a b c x y z p q = record {
   long_is = λ more. q.long_is more ∙ p.long_is more;
   behind_is = λ more. q.behind_is more ∙ p.behind_is more;
@@ -170,7 +170,7 @@ stands_trans a b c x y z p q = record {
 }
 
 -- with more bytes behind both
-pub stands_more : (a b : ReaderView) (x y g : List ℕ) → Stands a b x y → Stands a b (x ++ g) (y ++ g)
+pub stands_more : (a b : ReaderView) (x y g : List ℕ) → AnswersAlike a b x y → AnswersAlike a b (x ++ g) (y ++ g)
 stands_more a b x y g p = record {
   long_is = λ more. ap (is_long b) (append_assoc y g more) ∙ p.long_is (g ++ more) ∙ ap (is_long a) (sym (append_assoc x g more));
   behind_is = λ more. ap behind_line (append_assoc y g more) ∙ p.behind_is (g ++ more) ∙ ap behind_line (sym (append_assoc x g more));
@@ -179,7 +179,7 @@ stands_more a b x y g p = record {
 }
 
 -- a reader with the same limit, in the same line
-pub stands_alike : (a b : ReaderView) (x y : List ℕ) → b.limit ≡ a.limit → b.long ≡ a.long → y ≡ x → Stands a b x y
+pub stands_alike : (a b : ReaderView) (x y : List ℕ) → b.limit ≡ a.limit → b.long ≡ a.long → y ≡ x → AnswersAlike a b x y
 stands_alike a b x y limit long same = record {
   long_is = λ more i. long i || nat_lt (limit i) (length (first_line (same i ++ more)));
   behind_is = λ more. ap (λ l. behind_line (l ++ more)) same;
@@ -188,8 +188,8 @@ stands_alike a b x y limit long same = record {
 }
 
 -- a reader that looked at all bytes
-pub looks_stands : (a b : ReaderView) → Looks a b → Stands a b (waiting a) (waiting b)
-looks_stands a b l = elim (is_long a (waiting a)) as (λ v. is_long a (waiting a) ≡ v → Stands a b (waiting a) (waiting b)) [
+pub looks_stands : (a b : ReaderView) → LooksOver a b → AnswersAlike a b (waiting a) (waiting b)
+looks_stands a b l = elim (is_long a (waiting a)) as (λ v. is_long a (waiting a) ≡ v → AnswersAlike a b (waiting a) (waiting b)) [
   | true ↦ λ t.
       let empty : waiting b ≡ [] = l.keeps.waiting_is ∙ ap (λ v. cond v [] (waiting a)) t in
       let long : b.long ≡ true = l.keeps.long_is ∙ t in record {
@@ -216,7 +216,7 @@ looks_stands a b l = elim (is_long a (waiting a)) as (λ v. is_long a (waiting a
     ] t
 
 -- the same answer, seen from an earlier reader
-pub stands_answer : (a b c : ReaderView) (x y : List ℕ) (answer : NextLine) → Stands a b x y → b.lines ≡ a.lines → Answers b c y answer → Answers a c x answer
+pub stands_answer : (a b c : ReaderView) (x y : List ℕ) (answer : NextLine) → AnswersAlike a b x y → b.lines ≡ a.lines → AnswersOver b c y answer → AnswersOver a c x answer
 stands_answer a b c x y answer s lines = go answer
   where
     at : {X : Type 0} (f g : List ℕ → X) → ((more : List ℕ) → f (y ++ more) ≡ g (x ++ more)) → f y ≡ g x
@@ -243,10 +243,10 @@ stands_answer a b c x y answer s lines = go answer
       | false ↦ λ t. same t
     ] refl)
 
-    keeps : Keeps b c y → Keeps a c x
+    keeps : KeepsBytes b c y → KeepsBytes a c x
     keeps k = record { lines_is = k.lines_is ∙ lines; long_is = k.long_is ∙ long; waiting_is = k.waiting_is ∙ kept }
 
-    go : (answer : NextLine) → Answers b c y answer → Answers a c x answer
+    go : (answer : NextLine) → AnswersOver b c y answer → AnswersOver a c x answer
     go (next_line.Line number body) h =
         let short : is_long a x ≡ false = sym long ∙ h.1 in
         (passes number h.0, short, subst (λ l. 0 < length l) (same short) h.2, h.3 ∙ ap body_of (same short))
@@ -278,7 +278,7 @@ goes_step a b c x y z answer told g s = record {
   end_is = λ t knows. s.end_is (told t) (knows_none b y g.going);
   answer_is =
       let stood = stands_more a b (waiting a ++ g.got) (waiting b) s.got g.stands in
-      subst (λ bytes. Answers a c bytes answer) (append_assoc (waiting a) g.got s.got)
+      subst (λ bytes. AnswersOver a c bytes answer) (append_assoc (waiting a) g.got s.got)
       (stands_answer a b c ((waiting a ++ g.got) ++ s.got) (waiting b ++ s.got) answer stood g.lines_is s.answer_is);
 }
 
@@ -291,7 +291,7 @@ goes_on a b c x y z told g h = record {
   lines_is = h.lines_is ∙ g.lines_is;
   going = h.going;
   left_is = λ t. g.left_is t ∙ ap (λ l. g.got ++ l) (h.left_is (told t)) ∙ sym (append_assoc g.got h.got z.left);
-  stands = subst (λ here. Stands a c here (waiting c)) (append_assoc (waiting a) g.got h.got)
+  stands = subst (λ here. AnswersAlike a c here (waiting c)) (append_assoc (waiting a) g.got h.got)
       (stands_trans a b c ((waiting a ++ g.got) ++ h.got) (waiting b ++ h.got) (waiting c) (stands_more a b (waiting a ++ g.got) (waiting b) h.got g.stands) h.stands);
 }
 
@@ -308,7 +308,7 @@ goes_none a b x y going same still = record {
 }
 
 -- all bytes were looked at
-pub looks_goes : (a b : ReaderView) (x y : SourceView) → Looks a b → x.left ≡ y.left → Goes a b x y
+pub looks_goes : (a b : ReaderView) (x y : SourceView) → LooksOver a b → x.left ≡ y.left → Goes a b x y
 looks_goes a b x y l still = record {
   got = [];
   limit_is = l.limit_is;
@@ -316,7 +316,7 @@ looks_goes a b x y l still = record {
   lines_is = l.keeps.lines_is;
   going = l.going;
   left_is = λ t. still;
-  stands = subst (λ here. Stands a b here (waiting b)) (sym (append-nil (waiting a))) (looks_stands a b l);
+  stands = subst (λ here. AnswersAlike a b here (waiting b)) (sym (append-nil (waiting a))) (looks_stands a b l);
 }
 
 -- bytes were taken, and not looked at yet
@@ -333,7 +333,7 @@ gets_goes a b x y going none g = record {
 }
 
 -- bytes were looked at, and then more were taken
-pub advances : (a b c : ReaderView) (x y : SourceView) → Looks a b → Gets b c x y → Advances a c x y
+pub advances : (a b c : ReaderView) (x y : SourceView) → LooksOver a b → Gets b c x y → Advances a c x y
 advances a b c x y l g = record {
   none = l.none;
   some = omega (arith, l.taken_is, ap (λ v. v.taken) g.new_is, g.some);

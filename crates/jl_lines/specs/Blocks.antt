@@ -6,10 +6,10 @@ use Rattle.jl_streams.specs.declared.source.Got.TheVariants as got
 use Rattle.jl_streams.specs.Views.{SourceView}
 
 -- at least one byte and at most so many stand at the front of the buffer, and were left where that is told
-abbrev pub GivesFront : Got → ℕ → List ℕ → SourceView → SourceView → Type 0
-GivesFront (got.Bytes k) most buf' before after = (1 ≤ k) × (k ≤ most) × (k ≤ length buf') × (before.told → before.left ≡ take k buf' ++ after.left)
-GivesFront got.End most buf' before after = before.told → (before.left ≡ []) × (after.left ≡ [])
-GivesFront got.Failed most buf' before after = before.told → after.left ≡ before.left
+abbrev pub FillsFront : Got → ℕ → List ℕ → SourceView → SourceView → Type 0
+FillsFront (got.Bytes k) most buf' before after = (1 ≤ k) × (k ≤ most) × (k ≤ length buf') × (before.told → before.left ≡ take k buf' ++ after.left)
+FillsFront got.End most buf' before after = before.told → (before.left ≡ []) × (after.left ≡ [])
+FillsFront got.Failed most buf' before after = before.told → after.left ≡ before.left
 
 -- the block holds at least one byte and at most so many, which were left where that is told; or it holds none
 abbrev pub Fills : Result Got AllocError → ℕ → List ℕ → SourceView → SourceView → Type 0

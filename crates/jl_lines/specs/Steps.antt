@@ -40,19 +40,19 @@ pub record Passes (old new : ReaderView) (bytes : List ℕ) (number : ℕ) : Typ
   pub ended_is : new.ended ≡ not (has_newline bytes)
 
 -- no line is passed; of a line that is too long nothing is kept
-pub record Keeps (old new : ReaderView) (bytes : List ℕ) : Type 0 where
+pub record KeepsBytes (old new : ReaderView) (bytes : List ℕ) : Type 0 where
   pub lines_is : new.lines ≡ old.lines
   pub long_is : new.long ≡ is_long old bytes
   pub waiting_is : waiting new ≡ cond (is_long old bytes) [] bytes
 
 -- what is answered over the bytes that wait and those that were taken in this call
-abbrev pub Answers : ReaderView → ReaderView → List ℕ → NextLine → Type 0
-Answers old new bytes (next_line.Line number body) = Passes old new bytes number × (is_long old bytes ≡ false) × (0 < length bytes) × (body ≡ body_of bytes)
-Answers old new bytes (next_line.TooLong number) = Passes old new bytes number × (is_long old bytes ≡ true)
-Answers old new bytes next_line.End = Keeps old new bytes × (old.long ≡ false) × (bytes ≡ []) × (new.ended ≡ true)
-Answers old new bytes next_line.TooMuch = Keeps old new bytes × (has_newline bytes ≡ false) × (new.ended ≡ false) × (new.taken ≡ MOST_INPUT_BYTES)
-Answers old new bytes next_line.ReadFault = Keeps old new bytes × (has_newline bytes ≡ false) × (new.ended ≡ false)
-Answers old new bytes next_line.NoMemory = Keeps old new bytes × (new.ended ≡ false)
+abbrev pub AnswersOver : ReaderView → ReaderView → List ℕ → NextLine → Type 0
+AnswersOver old new bytes (next_line.Line number body) = Passes old new bytes number × (is_long old bytes ≡ false) × (0 < length bytes) × (body ≡ body_of bytes)
+AnswersOver old new bytes (next_line.TooLong number) = Passes old new bytes number × (is_long old bytes ≡ true)
+AnswersOver old new bytes next_line.End = KeepsBytes old new bytes × (old.long ≡ false) × (bytes ≡ []) × (new.ended ≡ true)
+AnswersOver old new bytes next_line.TooMuch = KeepsBytes old new bytes × (has_newline bytes ≡ false) × (new.ended ≡ false) × (new.taken ≡ MOST_INPUT_BYTES)
+AnswersOver old new bytes next_line.ReadFault = KeepsBytes old new bytes × (has_newline bytes ≡ false) × (new.ended ≡ false)
+AnswersOver old new bytes next_line.NoMemory = KeepsBytes old new bytes × (new.ended ≡ false)
 
 -- where the source went: the bytes taken were left, and at `TooMuch` one more
 abbrev pub LeftIs : NextLine → List ℕ → SourceView → SourceView → Type 0
@@ -71,37 +71,37 @@ pub record NextStep (old new : ReaderView) (before after : SourceView) (answer :
   pub most : new.taken ≤ MOST_INPUT_BYTES
   pub left_is : before.told → LeftIs answer got before after
   pub end_is : before.told → KnowsEnd old before → KnowsEnd new after
-  pub answer_is : Answers old new (waiting old ++ got) answer
+  pub answer_is : AnswersOver old new (waiting old ++ got) answer
 
 -- where the bytes that are ahead went: the first of their lines was answered, or none; `ahead` are the bytes that wait and those that the source has left
-abbrev pub Follows : ReaderView → NextLine → List ℕ → List ℕ → Type 0
-Follows old (next_line.Line number body) ahead ahead' = (lines_of ahead ≡ first_line ahead ∷ lines_of ahead') × (body ≡ body_of ahead) × (length (first_line ahead) ≤ old.limit)
-Follows old (next_line.TooLong number) ahead ahead' = old.long ≡ false → (lines_of ahead ≡ first_line ahead ∷ lines_of ahead') × (old.limit < length (first_line ahead))
-Follows old next_line.End ahead ahead' = (lines_of ahead ≡ []) × (lines_of ahead' ≡ [])
-Follows old next_line.TooMuch ahead ahead' = Unit {0}
-Follows old next_line.ReadFault ahead ahead' = Unit {0}
-Follows old next_line.NoMemory ahead ahead' = Unit {0}
+abbrev pub TakesLine : ReaderView → NextLine → List ℕ → List ℕ → Type 0
+TakesLine old (next_line.Line number body) ahead ahead' = (lines_of ahead ≡ first_line ahead ∷ lines_of ahead') × (body ≡ body_of ahead) × (length (first_line ahead) ≤ old.limit)
+TakesLine old (next_line.TooLong number) ahead ahead' = old.long ≡ false → (lines_of ahead ≡ first_line ahead ∷ lines_of ahead') × (old.limit < length (first_line ahead))
+TakesLine old next_line.End ahead ahead' = (lines_of ahead ≡ []) × (lines_of ahead' ≡ [])
+TakesLine old next_line.TooMuch ahead ahead' = Unit {0}
+TakesLine old next_line.ReadFault ahead ahead' = Unit {0}
+TakesLine old next_line.NoMemory ahead ahead' = Unit {0}
 
 -- an answer that needs no further read
-abbrev pub IsSettled : NextLine → Type 0
-IsSettled (next_line.Line number body) = Unit {0}
-IsSettled (next_line.TooLong number) = Unit {0}
-IsSettled next_line.End = Unit {0}
-IsSettled next_line.TooMuch = ⊥
-IsSettled next_line.ReadFault = ⊥
-IsSettled next_line.NoMemory = Unit {0}
+abbrev pub NeedsNoRead : NextLine → Type 0
+NeedsNoRead (next_line.Line number body) = Unit {0}
+NeedsNoRead (next_line.TooLong number) = Unit {0}
+NeedsNoRead next_line.End = Unit {0}
+NeedsNoRead next_line.TooMuch = ⊥
+NeedsNoRead next_line.ReadFault = ⊥
+NeedsNoRead next_line.NoMemory = Unit {0}
 
 -- an answer over the bytes that wait, and whether the end is met with it; nothing was taken
 pub record Settles (ended : Bool) (old new : ReaderView) (answer : NextLine) : Type 0 where
-  pub kind : IsSettled answer
+  pub kind : NeedsNoRead answer
   pub limit_is : new.limit ≡ old.limit
   pub taken_is : new.taken ≡ old.taken
   pub most : new.taken ≤ MOST_INPUT_BYTES
   pub ended_is : new.ended ≡ ended
-  pub answer_is : Answers old new (waiting old) answer
+  pub answer_is : AnswersOver old new (waiting old) answer
 
 -- whatever bytes come behind, `new` over the bytes `there` answers what `old` answers over the bytes `here`
-pub record Stands (old new : ReaderView) (here there : List ℕ) : Type 0 where
+pub record AnswersAlike (old new : ReaderView) (here there : List ℕ) : Type 0 where
   pub long_is : (more : List ℕ) → is_long new (there ++ more) ≡ is_long old (here ++ more)
   pub behind_is : (more : List ℕ) → behind_line (there ++ more) ≡ behind_line (here ++ more)
   pub newline_is : (more : List ℕ) → has_newline (there ++ more) ≡ has_newline (here ++ more)
@@ -115,7 +115,7 @@ pub record Goes (old new : ReaderView) (before after : SourceView) : Type 0 wher
   pub lines_is : new.lines ≡ old.lines
   pub going : new.ended ≡ false
   pub left_is : before.told → before.left ≡ got ++ after.left
-  pub stands : Stands old new (waiting old ++ got) (waiting new)
+  pub stands : AnswersAlike old new (waiting old ++ got) (waiting new)
 
 -- no whole line waited, and at least one byte was taken
 pub record Advances (old new : ReaderView) (before after : SourceView) : Type 0 where
@@ -125,12 +125,12 @@ pub record Advances (old new : ReaderView) (before after : SourceView) : Type 0 
   pub goes : Goes old new before after
 
 -- the bytes that wait are no whole line, and all of them were looked at; the end isn't met
-pub record Looks (old new : ReaderView) : Type 0 where
+pub record LooksOver (old new : ReaderView) : Type 0 where
   pub limit_is : new.limit ≡ old.limit
   pub taken_is : new.taken ≡ old.taken
   pub going : new.ended ≡ false
   pub none : has_newline (waiting old) ≡ false
-  pub keeps : Keeps old new (waiting old)
+  pub keeps : KeepsBytes old new (waiting old)
   pub rest_is : new.rest ≡ []
 
 -- at least one byte was taken, behind the others, where none was left to look at

@@ -1,7 +1,7 @@
 // Bytes that were read at once, and are used one part after another.
 ghost use Rattle.std.specs.Prelude.{◌≡◌, ◌<◌, ◌≤◌, [], Ok, ◌++◌, length, take, drop, OnOk};
 ghost use Rattle.jl_streams.specs.Views.{SourceAnswers};
-ghost use Rattle.jl_lines.specs.Blocks.{Fills, GivesFront};
+ghost use Rattle.jl_lines.specs.Blocks.{Fills, FillsFront};
 
 use jl_streams::{Got, Source};
 use jl_text::limits::PIECE_BYTES;
@@ -29,7 +29,7 @@ impl Model for Block {
 fn read_front<S: Source>(source: &mut S, buf: &mut [u8], most: u64) -> Got
     requires some { 0 < most }
     requires room { 0 < length buf.old }
-    ensures front { GivesFront result most buf.new (S.view source.old) (S.view source.new) }
+    ensures front { FillsFront result most buf.new (S.view source.old) (S.view source.new) }
     ensures frame { SourceAnswers (result ≡ Got.Failed) (S.view source.old) (S.view source.new) }
 {
     let size = if most < buf.len() as u64 {

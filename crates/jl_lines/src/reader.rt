@@ -4,7 +4,7 @@ ghost use Rattle.jl_text.specs.declared.limits.TheConstants.{MOST_INPUT_BYTES};
 ghost use Rattle.jl_streams.specs.Views.{SourceAnswers};
 ghost use Rattle.jl_lines.specs.Lines.{has_newline, is_newline};
 ghost use Rattle.jl_lines.specs.Readers.{IsReader};
-ghost use Rattle.jl_lines.specs.Steps.{NextStep, Follows, KnowsEnd, Looks, Gets, EndsAt, Advances, Settles, is_over, waiting};
+ghost use Rattle.jl_lines.specs.Steps.{NextStep, TakesLine, KnowsEnd, LooksOver, Gets, EndsAt, Advances, Settles, is_over, waiting};
 
 use crate::block::Block;
 use jl_streams::{Got, Source};
@@ -185,7 +185,7 @@ impl LineReader {
     fn look_over(&mut self) -> Result<(), AllocError>
         requires going { self.old.ended ≡ false }
         requires none { has_newline self.old.rest ≡ false }
-        ensures { MatchResult result (λ done. Looks self.old self.new)
+        ensures { MatchResult result (λ done. LooksOver self.old self.new)
             (λ e. (self.new ≡ self.old) × (is_over self.old (length self.old.rest) ≡ false)) }
     {
         let count = self.block.rest().len();
@@ -202,7 +202,7 @@ impl LineReader {
     // Passes the line at the front, if it ends among the bytes that wait.
     fn take_line(&mut self, alloc: Global) -> Option<NextLine>
         requires { self.old.ended ≡ false }
-        ensures { MatchOption result (Looks self.old self.new)
+        ensures { MatchOption result (LooksOver self.old self.new)
             (λ answer. Settles false self.old self.new answer) }
     {
         match line_size(self.block.rest()) {
@@ -314,7 +314,7 @@ impl LineReader {
         ensures step { NextStep self.old self.new (S.view source.old) (S.view source.new) result }
         ensures lines { (S.view source.old).told
             → KnowsEnd self.old (S.view source.old)
-            → Follows self.old result (waiting self.old ++ (S.view source.old).left)
+            → TakesLine self.old result (waiting self.old ++ (S.view source.old).left)
             (waiting self.new ++ (S.view source.new).left) }
         ensures still { has_newline (waiting self.old) ≡ true → source.new ≡ source.old }
         ensures over { self.old.ended ≡ true

@@ -5,8 +5,8 @@ use Rattle.jl_value.specs.Tree.{Tree, text, list, table, numbers, Items, Members
 use Rattle.jl_value.specs.declared.library.TaskError.TheVariants.{TooLong}
 use Rattle.jl_operands.specs.declared.fault.CallFault.{CallFault}
 use Rattle.jl_operands.specs.declared.counting.Counted.{Counted}
-use Rattle.jl_operands.specs.Outcomes.{Runs}
-use Rattle.jl_operands.specs.Steps.{Ran, done, failed, counted, steps_within, weight, items_weight, members_weight}
+use Rattle.jl_operands.specs.Outcomes.{Evaluates}
+use Rattle.jl_operands.specs.Steps.{Evaluated, done, failed, counted, steps_within, weight, items_weight, members_weight}
 
 -- a weight that is told up to the largest number of 64 bits: the limit is far below
 test_by : (b : Bool) (n w m : ℕ) → m ≡ min w 18446744073709551615 → nat_lt 16777216 (n + m) ≡ b → nat_lt 16777216 (n + w) ≡ b
@@ -17,7 +17,7 @@ sum_by : (n w m : ℕ) → m ≡ min w 18446744073709551615 → nat_lt 16777216 
 sum_by n w m e h = grind arith
 
 -- what a count that goes on or passes its limit comes to
-abbrev pub counted_with : Option ℕ → Tree → Ran
+abbrev pub counted_with : Option ℕ → Tree → Evaluated
 counted_with None v = failed TooLong
 counted_with (Some s) v = done v s
 
@@ -41,8 +41,8 @@ pub counted_over : (o : Option ℕ) (n m : ℕ) (v : Tree) → m ≡ min (weight
 counted_over o n m v e same there = counted_is o n m v e same ∙ ap (λ p. counted_with p v) there
 
 -- the same answer of what is the same
-pub runs_by : (r : Result Counted CallFault) (x y : Ran) → x ≡ y → Runs r x → Runs r y
-runs_by r x y same h = subst (λ (z : Ran). Runs r z) same h
+pub runs_by : (r : Result Counted CallFault) (x y : Evaluated) → x ≡ y → Evaluates r x → Evaluates r y
+runs_by r x y same h = subst (λ (z : Evaluated). Evaluates r z) same h
 
 -- ---- two as one
 

@@ -5,7 +5,7 @@ use Rattle.std.specs.Cmp.Lexicographic.{slice_cmp}
 use Rattle.std.specs.BTreeMap.{insert_entry}
 use Rattle.jl_value.specs.Tree.{Tree, truth, whole, list, numbers, items_of, list_of}
 use Rattle.jl_value.specs.declared.library.TaskError.TheVariants.{BadKind}
-use Rattle.jl_operands.specs.Steps.{Ran, done, failed, then', counted}
+use Rattle.jl_operands.specs.Steps.{Evaluated, done, failed, then', counted}
 
 -- the members that a list or an array has, each as a value
 abbrev pub wholes : List ℤ → List Tree
@@ -19,27 +19,27 @@ source_of (numbers zs) = Some (wholes zs)
 source_of _ = None
 
 -- a list that is made of one value for each member of another, behind those that it has so far
-abbrev pub each_over : (Tree → ℕ → Ran) → List Tree → List Tree → ℕ → Ran
+abbrev pub each_over : (Tree → ℕ → Evaluated) → List Tree → List Tree → ℕ → Evaluated
 each_over of [] vs n = counted n (list (items_of vs))
 each_over of (u ∷ us) vs n = then' (of u n) (λ v m. each_over of us (vs ++ v ∷ []) m)
 
 -- takes a member or leaves it out, by its condition
-abbrev pub picked : Tree → ℕ → (ℕ → Ran) → (ℕ → Ran) → Ran
+abbrev pub picked : Tree → ℕ → (ℕ → Evaluated) → (ℕ → Evaluated) → Evaluated
 picked (truth true) n take leave = take n
 picked (truth false) n take leave = leave n
 picked _ n take leave = failed BadKind
 
 -- one member, if its condition lets it through, behind those so far, and what follows
-abbrev pub taking : (ℕ → Ran) → (ℕ → Ran) → List Tree → ℕ → (List Tree → ℕ → Ran) → Ran
+abbrev pub taking : (ℕ → Evaluated) → (ℕ → Evaluated) → List Tree → ℕ → (List Tree → ℕ → Evaluated) → Evaluated
 taking if_so of vs n rest = then' (if_so n) (λ c m. picked c m (λ k. then' (of k) (λ v l. rest (vs ++ v ∷ []) l)) (λ k. rest vs k))
 
 -- the same of the members at which a condition holds
-abbrev pub filtered_over : (Tree → ℕ → Ran) → (Tree → ℕ → Ran) → List Tree → List Tree → ℕ → Ran
+abbrev pub filtered_over : (Tree → ℕ → Evaluated) → (Tree → ℕ → Evaluated) → List Tree → List Tree → ℕ → Evaluated
 filtered_over if_so of [] vs n = counted n (list (items_of vs))
 filtered_over if_so of (u ∷ us) vs n = taking (if_so u) (of u) vs n (λ ws l. filtered_over if_so of us ws l)
 
 -- goes on with the members, where there are any
-abbrev pub over : Option (List Tree) → (List Tree → Ran) → Ran
+abbrev pub over : Option (List Tree) → (List Tree → Evaluated) → Evaluated
 over None of = failed BadKind
 over (Some us) of = of us
 
@@ -49,11 +49,11 @@ with_entry None v kvs = kvs
 with_entry (Some k) v kvs = insert_entry (slice_cmp nat_cmp) kvs k v
 
 -- what a condition answers at each of some members
-abbrev pub Answers : (Tree → ℕ → Ran) → List Tree → List Bool → Type 0
-Answers if_so [] [] = ⊤
-Answers if_so [] (b ∷ bs) = ⊥
-Answers if_so (u ∷ us) [] = ⊥
-Answers if_so (u ∷ us) (b ∷ bs) = ((n : ℕ) × (m : ℕ) × (if_so u n ≡ done (truth b) m)) × Answers if_so us bs
+abbrev pub ConditionAnswers : (Tree → ℕ → Evaluated) → List Tree → List Bool → Type 0
+ConditionAnswers if_so [] [] = ⊤
+ConditionAnswers if_so [] (b ∷ bs) = ⊥
+ConditionAnswers if_so (u ∷ us) [] = ⊥
+ConditionAnswers if_so (u ∷ us) (b ∷ bs) = ((n : ℕ) × (m : ℕ) × (if_so u n ≡ done (truth b) m)) × ConditionAnswers if_so us bs
 
 -- how many are true
 abbrev pub trues : List Bool → ℕ
@@ -62,7 +62,7 @@ trues (true ∷ bs) = suc (trues bs)
 trues (false ∷ bs) = trues bs
 
 -- a condition answers a truth at each member, and so many times true
-pub record LetsThrough (if_so : Tree → ℕ → Ran) (us : List Tree) (count : ℕ) : Type 0 where
+pub record LetsThrough (if_so : Tree → ℕ → Evaluated) (us : List Tree) (count : ℕ) : Type 0 where
   pub answers : List Bool
-  pub given : Answers if_so us answers
+  pub given : ConditionAnswers if_so us answers
   pub holding : trues answers ≡ count

@@ -10,7 +10,7 @@ use Rattle.jl_value.specs.declared.library.TaskError.TheVariants.{BadKind}
 use Rattle.jl_operands.specs.declared.fault.CallFault.{CallFault}
 use Rattle.jl_operands.specs.declared.fault.CallFault.TheVariants.{Task, NoMemory}
 use Rattle.jl_operands.specs.declared.counting.Counted.{Counted}
-use Rattle.jl_operands.specs.Steps.{Ran, done, failed}
+use Rattle.jl_operands.specs.Steps.{Evaluated, done, failed}
 use Rattle.jl_operands.specs.Operands.{tree_of_operand}
 
 -- the error of an operation
@@ -23,17 +23,17 @@ abbrev pub Makes : Result Value CallFault → Result Tree TaskError → Type 0
 Makes x r = MatchResult x (λ v. r ≡ Ok (tree_of v)) (λ e. Refuses e r)
 
 -- a value with the count of steps behind it
-abbrev pub IsRan : Counted → Ran → Type 0
+abbrev pub IsRan : Counted → Evaluated → Type 0
 IsRan c r = r ≡ done (tree_of_operand c.value) c.steps
 
 -- the error in place of a value
-abbrev pub IsFailing : CallFault → Ran → Type 0
+abbrev pub IsFailing : CallFault → Evaluated → Type 0
 IsFailing (Task e) r = r ≡ failed e
 IsFailing NoMemory r = ⊤
 
 -- a value is made and counted as it is to be, or its error is told
-abbrev pub Runs : Result Counted CallFault → Ran → Type 0
-Runs x r = MatchResult x (λ c. IsRan c r) (λ e. IsFailing e r)
+abbrev pub Evaluates : Result Counted CallFault → Evaluated → Type 0
+Evaluates x r = MatchResult x (λ c. IsRan c r) (λ e. IsFailing e r)
 
 -- there is nothing to go over
 abbrev pub NoSource : CallFault → Option (List Tree) → Type 0

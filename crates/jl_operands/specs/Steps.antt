@@ -26,12 +26,12 @@ abbrev mutual
   members_weight (member k t ms) = length k + (weight t + members_weight ms)
 
 -- a value with the count of steps so far, or the first error
-pub data Ran : Type 0 where
-  done : Tree → ℕ → Ran
-  failed : TaskError → Ran
+pub data Evaluated : Type 0 where
+  done : Tree → ℕ → Evaluated
+  failed : TaskError → Evaluated
 
 -- goes on where there is no error
-abbrev pub then' : Ran → (Tree → ℕ → Ran) → Ran
+abbrev pub then' : Evaluated → (Tree → ℕ → Evaluated) → Evaluated
 then' (done v n) next = next v n
 then' (failed e) next = failed e
 
@@ -40,10 +40,10 @@ abbrev pub steps_within : ℕ → Option ℕ
 steps_within n = if nat_lt 16777216 n then None else Some n
 
 -- a value to be counted, which may not pass 2 ^ 24
-abbrev pub counted : ℕ → Tree → Ran
+abbrev pub counted : ℕ → Tree → Evaluated
 counted n v = if nat_lt 16777216 (n + weight v) then failed TooLong else done v (n + weight v)
 
 -- what an operation makes, to be counted, or its error
-abbrev pub operated : ℕ → Result Tree TaskError → Ran
+abbrev pub operated : ℕ → Result Tree TaskError → Evaluated
 operated n (Ok v) = counted n v
 operated n (Err e) = failed e

@@ -6,7 +6,7 @@ ghost use Rattle.jl_value.specs.Proper.{AreKeys, keys};
 ghost use Rattle.jl_value.specs.Tree.{list, table, items_of, members_of};
 ghost use Rattle.jl_operands.specs.Steps.{counted};
 ghost use Rattle.jl_operands.specs.Operands.{list_of_wholes, tree_of_operand, trees_gathered};
-ghost use Rattle.jl_operands.specs.Outcomes.{Runs, pairs_in};
+ghost use Rattle.jl_operands.specs.Outcomes.{Evaluates, pairs_in};
 
 use crate::fault::CallFault;
 use crate::gathered::Gathered;
@@ -27,7 +27,7 @@ pub struct Counted {
 
 /// Counts a value that was moved here.
 pub fn count_value(value: Value, steps: Steps) -> Result<Counted, CallFault>
-    ensures { Runs result (counted steps (tree_of value)) }
+    ensures { Evaluates result (counted steps (tree_of value)) }
 {
     match steps.checked_add(weight(&value)) {
         Some(steps) => Ok(Counted {
@@ -40,7 +40,7 @@ pub fn count_value(value: Value, steps: Steps) -> Result<Counted, CallFault>
 
 /// Counts a value before it is copied.
 pub fn count_copy(alloc: Global, value: &Value, steps: Steps) -> Result<Counted, CallFault>
-    ensures { Runs result (counted steps (tree_of value.now)) }
+    ensures { Evaluates result (counted steps (tree_of value.now)) }
 {
     match steps.checked_add(weight(value)) {
         Some(steps) => Ok(Counted {
@@ -53,7 +53,7 @@ pub fn count_copy(alloc: Global, value: &Value, steps: Steps) -> Result<Counted,
 
 /// Counts the list of some whole numbers before it is made.
 pub(crate) fn count_wholes(numbers: Vec<i64>, steps: Steps) -> Result<Counted, CallFault>
-    ensures { Runs result (counted steps (list_of_wholes numbers.items)) }
+    ensures { Evaluates result (counted steps (list_of_wholes numbers.items)) }
 {
     match steps.checked_add(length_weight(numbers.as_slice().len())) {
         Some(steps) => Ok(Counted {
@@ -66,7 +66,7 @@ pub(crate) fn count_wholes(numbers: Vec<i64>, steps: Steps) -> Result<Counted, C
 
 /// Counts an operand that was moved here.
 pub fn count_operand(operand: Operand, steps: Steps) -> Result<Counted, CallFault>
-    ensures { Runs result (counted steps (tree_of_operand operand)) }
+    ensures { Evaluates result (counted steps (tree_of_operand operand)) }
 {
     match operand {
         Operand::Plain(value) => count_value(value, steps),
@@ -75,7 +75,7 @@ pub fn count_operand(operand: Operand, steps: Steps) -> Result<Counted, CallFaul
 }
 
 fn count_members(members: Vec<Value>, steps: Steps) -> Result<Counted, CallFault>
-    ensures { Runs result (counted steps (list (items_of (trees_of members.items)))) }
+    ensures { Evaluates result (counted steps (list (items_of (trees_of members.items)))) }
 {
     match steps.checked_add(items_weight(members.as_slice()).saturating_add(1)) {
         Some(steps) => Ok(Counted {
@@ -88,7 +88,7 @@ fn count_members(members: Vec<Value>, steps: Steps) -> Result<Counted, CallFault
 
 /// Counts the list of some members before it is made.
 pub fn count_list(members: Gathered, steps: Steps) -> Result<Counted, CallFault>
-    ensures { Runs result (counted steps (list (items_of (trees_gathered members)))) }
+    ensures { Evaluates result (counted steps (list (items_of (trees_gathered members)))) }
 {
     match members {
         Gathered::Wholes(numbers) => count_wholes(numbers, steps),
@@ -103,7 +103,7 @@ pub fn count_table(
     steps: Steps,
 ) -> Result<Counted, CallFault>
     requires { AreKeys (keys (members_of (pairs_in members.entries))) }
-    ensures { Runs result (counted steps (table (members_of (pairs_in members.entries)))) }
+    ensures { Evaluates result (counted steps (table (members_of (pairs_in members.entries)))) }
 {
     let members = pairs(alloc, members)?;
     match steps.checked_add(members_weight(members.as_slice()).saturating_add(1)) {

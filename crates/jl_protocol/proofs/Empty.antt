@@ -7,11 +7,11 @@ use Rattle.jl_folder.specs.State.{State, IsState, place_at, bare_state}
 use Rattle.jl_folder.proofs.Bare.{bare_place, bare_is_state}
 use Rattle.jl_entry.specs.Names.{IsStoreFolder, IsBelow, IsOutside, root_of, root_part}
 use Rattle.jl_entry.proofs.NameFacts.{final_below, temp_below, folder_not_outside}
-use Rattle.jl_protocol.specs.Whole.{Answers}
+use Rattle.jl_protocol.specs.Whole.{CodeAnswers}
 use Rattle.jl_protocol.specs.Tidy.{IsSound}
 use Rattle.jl_protocol.proofs.Before.{by_path, file_not_folder, some_not_none}
 
-pub absent_is_sound : (root : PathView) (answer : Answers) (s : State) → IsState s
+pub absent_is_sound : (root : PathView) (answer : CodeAnswers) (s : State) → IsState s
     → ((p q : PathView) (n : ℕ) → place_at s p ≡ Some (File n) → place_at s q ≡ Some (File n) → p ≡ q)
     → ((p : PathView) (n : ℕ) → place_at s p ≡ Some (File n) → IsOutside root p)
     → ((p : PathView) → place_at s p ≡ Some Folder → IsBelow root p → IsStoreFolder root p) → IsSound root answer s
@@ -47,7 +47,7 @@ not_below [] p (inr e) b = let h : [] ∷ [] ≡ root_part ∷ b.0 = sym e ∙ b
 not_below (q ∷ qs) p (inr e) b =
     omega (arith, ap length (sym e ∙ b.1), length-append ((q ∷ qs) ++ root_part ∷ []) b.0, length-append (q ∷ qs) (root_part ∷ []))
 
-pub empty_is_sound : (location : PathView) (answer : Answers) → IsSound (root_of location) answer bare_state
+pub empty_is_sound : (location : PathView) (answer : CodeAnswers) → IsSound (root_of location) answer bare_state
 empty_is_sound location answer =
     absent_is_sound (root_of location) answer bare_state bare_is_state
     (λ p q n e f. absurd (no_file p n e))

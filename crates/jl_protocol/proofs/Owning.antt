@@ -10,7 +10,7 @@ use Rattle.jl_entry.specs.Names.{Final, IsFinal, IsTemp, IsBelow, IsOutside}
 use Rattle.jl_entry.proofs.NameFacts.{temp_one_way, final_one_way, final_not_temp, temp_below}
 use Rattle.jl_rely.proofs.Effects.{created_here, created_node, created_nodes, appended_node, appended_nodes, renamed_nodes}
 use Rattle.jl_rely.proofs.Composed.{IsStable}
-use Rattle.jl_protocol.specs.Whole.{IsWhole, Answers, IsTruthful}
+use Rattle.jl_protocol.specs.Whole.{IsWhole, CodeAnswers, IsTruthful}
 use Rattle.jl_protocol.specs.Tidy.{NodeHas}
 use Rattle.jl_protocol.specs.Proper.{IsOwnOpen, IsProperInside, IsProperOutside, IsProper, RenamesTrue}
 use Rattle.jl_protocol.specs.Owned.{IsOwnFile}
@@ -106,7 +106,7 @@ module _ (root : PathView) (token : List ℕ) (x : Final) (temp : PathView) (is_
   rename_proper s last final whole own = inl (x, is_temp, final, own_has s (λ v. IsWhole x v.bytes) own whole)
 
   -- and a rename of true bytes is true
-  pub rename_true : (answer : Answers) (s : State) (last : PathView) → IsFinal root x last → IsTruthful answer x bytes → IsOwnFile token temp n bytes s → RenamesTrue root answer s (Rename temp last)
+  pub rename_true : (answer : CodeAnswers) (s : State) (last : PathView) → IsFinal root x last → IsTruthful answer x bytes → IsOwnFile token temp n bytes s → RenamesTrue root answer s (Rename temp last)
   unfolding RenamesTrue
   rename_true answer s last final truth own y final' =
       subst (λ (z : Final). NodeHas s temp (λ v. IsTruthful answer z v.bytes)) (final_one_way root x y last final final') (own_has s (λ v. IsTruthful answer x v.bytes) own truth)

@@ -8,7 +8,7 @@ use Rattle.jl_folder.specs.State.{State, Allowed, IsState, place_at, node_at, af
 use Rattle.jl_folder.proofs.StateKept.{IsState-after}
 use Rattle.jl_entry.specs.Names.{Final, IsFinal, IsTemp, IsStoreFolder, IsStoreName, IsBelow, IsOutside}
 use Rattle.jl_entry.proofs.NameFacts.{temp_one_way, final_one_way, final_not_temp, final_not_folder, temp_not_folder, final_below, temp_below, folder_not_outside}
-use Rattle.jl_protocol.specs.Whole.{IsWhole, Answers, IsTruthful}
+use Rattle.jl_protocol.specs.Whole.{IsWhole, CodeAnswers, IsTruthful}
 use Rattle.jl_protocol.specs.Tidy.{NodeHas, IsTidy, IsSound}
 use Rattle.jl_protocol.specs.Proper.{IsOwnOpen, IsProperInside, IsProperOutside, IsProper, IsLawful, RenamesTrue}
 use Rattle.jl_protocol.proofs.Before.{some_not_none, renumber, node_of, file_of, made_files, made_folders, created_folders, created_files, removed_places, unmade_places, renamed_folders, renamed_files}
@@ -209,7 +209,7 @@ module _ (root : PathView) (token : List ℕ) (s : State) (tidy : IsTidy root s)
 
   -- ---- sound states
 
-  module _ (answer : Answers) (sound : (x : Final) (p : PathView) → IsFinal root x p → NodeHas s p (λ v. IsTruthful answer x v.bytes)) where
+  module _ (answer : CodeAnswers) (sound : (x : Final) (p : PathView) → IsFinal root x p → NodeHas s p (λ v. IsTruthful answer x v.bytes)) where
     abbrev Truths : State → Type 0
     Truths t = (x : Final) (p : PathView) → IsFinal root x p → NodeHas t p (λ v. IsTruthful answer x v.bytes)
 
@@ -232,7 +232,7 @@ module _ (root : PathView) (token : List ℕ) (s : State) (tidy : IsTidy root s)
     stays_true (Remove p) may lawful x = kept_remove s token ok (IsFinal root x) _ (sound x) p
     stays_true (RemoveDir p) may lawful x = kept_remove_dir s token ok (IsFinal root x) _ (sound x) p
 
-pub stays_sound : (root : PathView) (answer : Answers) (token : List ℕ) (s : State) (m : Move) → Allowed s m → IsLawful root answer token s m → IsSound root answer s → IsSound root answer (after s (token, m))
+pub stays_sound : (root : PathView) (answer : CodeAnswers) (token : List ℕ) (s : State) (m : Move) → Allowed s m → IsLawful root answer token s m → IsSound root answer s → IsSound root answer (after s (token, m))
 stays_sound root answer token s m may lawful sound = record {
   tidy = stays_tidy root token s sound.tidy m may lawful.0;
   truthful = stays_true root token s sound.tidy answer sound.truthful m may lawful;

@@ -8,7 +8,7 @@ use Rattle.jl_folder.specs.declared.moves.Node.{Node}
 use Rattle.jl_folder.specs.State.{State, Trace, place_at, node_at}
 use Rattle.jl_entry.specs.Names.{Final, IsFinal, IsTemp, IsStoreFolder, IsStoreName, IsOutside}
 use Rattle.jl_rely.specs.Steps.{Throughout}
-use Rattle.jl_protocol.specs.Whole.{IsWhole, Answers, IsTruthful}
+use Rattle.jl_protocol.specs.Whole.{IsWhole, CodeAnswers, IsTruthful}
 use Rattle.jl_protocol.specs.Tidy.{NodeHas, IsTidy, IsSound}
 
 -- this run made the node, and it isn't frozen
@@ -40,7 +40,7 @@ abbrev pub IsProper : PathView → List ℕ → State → Move → Type 0
 IsProper root token s m = IsProperInside root token s m ⊎ IsProperOutside root token s m
 
 -- a rename to a final name moves true bytes
-unfoldable pub RenamesTrue : PathView → Answers → State → Move → Type 0
+unfoldable pub RenamesTrue : PathView → CodeAnswers → State → Move → Type 0
 RenamesTrue root answer s (MakeDir p) = ⊤
 RenamesTrue root answer s (Create p n) = ⊤
 RenamesTrue root answer s (Append n bytes) = ⊤
@@ -49,7 +49,7 @@ RenamesTrue root answer s (Remove p) = ⊤
 RenamesTrue root answer s (RemoveDir p) = ⊤
 
 -- proper, and what it renames to an output is true
-abbrev pub IsLawful : PathView → Answers → List ℕ → State → Move → Type 0
+abbrev pub IsLawful : PathView → CodeAnswers → List ℕ → State → Move → Type 0
 IsLawful root answer token s m = IsProper root token s m × RenamesTrue root answer s m
 
 -- from a tidy state, each step of this token is proper wherever all steps before it are
@@ -57,5 +57,5 @@ unfoldable pub ProperThroughout : PathView → List ℕ → State → Trace → 
 ProperThroughout root token s es = IsTidy root s → Throughout (IsProper root) (IsProper root) token s es
 
 -- from a sound state, each step of this token is lawful wherever all steps before it are
-unfoldable pub LawfulThroughout : PathView → Answers → List ℕ → State → Trace → Type 0
+unfoldable pub LawfulThroughout : PathView → CodeAnswers → List ℕ → State → Trace → Type 0
 LawfulThroughout root answer token s es = IsSound root answer s → Throughout (IsLawful root answer) (IsLawful root answer) token s es

@@ -6,7 +6,7 @@ use Rattle.jl_folder.specs.declared.moves.Move.TheVariants.{MakeDir, Create, App
 use Rattle.jl_folder.specs.declared.moves.Node.{Node}
 use Rattle.jl_folder.specs.State.{State, Event, Trace, IsState, place_at, node_at, after}
 use Rattle.jl_entry.specs.Names.{Final, IsFinal, IsTemp, IsStoreFolder, IsStoreName, IsBelow}
-use Rattle.jl_protocol.specs.Whole.{IsWhole, Answers, IsTruthful}
+use Rattle.jl_protocol.specs.Whole.{IsWhole, CodeAnswers, IsTruthful}
 
 -- the node that a path names, where it names one, has P
 abbrev pub NodeHas : State → PathView → (Node → Type 0) → Type 0
@@ -27,7 +27,7 @@ pub record IsTidy (root : PathView) (s : State) : Type 0 where
   pub one_name : (p q : PathView) (n : ℕ) → place_at s p ≡ Some (File n) → place_at s q ≡ Some (File n) → p ≡ q
 
 -- tidy, and each output is true
-pub record IsSound (root : PathView) (answer : Answers) (s : State) : Type 0 where
+pub record IsSound (root : PathView) (answer : CodeAnswers) (s : State) : Type 0 where
   pub tidy : IsTidy root s
   pub truthful : (x : Final) (p : PathView) → IsFinal root x p → NodeHas s p (λ v. IsTruthful answer x v.bytes)
 

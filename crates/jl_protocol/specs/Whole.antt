@@ -28,11 +28,11 @@ unfoldable pub IsWhole : Final → List ℕ → Type 0
 IsWhole x bytes = (length bytes ≤ most_bytes) × IsOfFormat x bytes
 
 -- what a code answers on arguments
-abbrev pub Answers : Type 0
-Answers = List ℕ → Members → Answer
+abbrev pub CodeAnswers : Type 0
+CodeAnswers = List ℕ → Members → Answer
 
 -- an output holds what its code answers on its arguments
-unfoldable pub IsTruthful : Answers → Final → List ℕ → Type 0
+unfoldable pub IsTruthful : CodeAnswers → Final → List ℕ → Type 0
 IsTruthful answer (code_of m f) bytes = ⊤
 IsTruthful answer (entry_of Output m f k) bytes = (code : List ℕ) × (ps : Members) × (t : Tree) × (answer code ps ≡ value t) × IsEntryOf bytes code ps t
 IsTruthful answer (entry_of Metadata m f k) bytes = ⊤

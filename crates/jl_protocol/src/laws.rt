@@ -7,7 +7,7 @@ ghost use Rattle.jl_folder.specs.declared.moves.Place.{Place};
 ghost use Rattle.jl_entry.specs.Codes.{IsSameCode};
 ghost use Rattle.jl_entry.specs.Names.{code_of, IsStoreFolder, IsStoreName, IsBelow, IsOutside, root_of};
 ghost use Rattle.jl_rely.specs.Steps.{AllSteps, Throughout};
-ghost use Rattle.jl_protocol.specs.Whole.{Answers, IsWhole};
+ghost use Rattle.jl_protocol.specs.Whole.{CodeAnswers, IsWhole};
 ghost use Rattle.jl_protocol.specs.Proper.{IsProper, IsLawful, RenamesTrue, ProperThroughout, LawfulThroughout};
 ghost use Rattle.jl_protocol.specs.Tidy.{IsTidy, IsSound, KillLeaves};
 
@@ -15,10 +15,10 @@ ghost use Rattle.jl_protocol.specs.Tidy.{IsTidy, IsSound, KillLeaves};
 pub fn moves_keep_stores()
     ensures tidy { (root : PathView) (token : List ℕ) (s : State) (m : Move) → Allowed s m
         → IsProper root token s m → IsTidy root s → IsTidy root (after s (token, m)) }
-    ensures sound { (root : PathView) (answer : Answers) (token : List ℕ) (s : State) (m : Move)
+    ensures sound { (root : PathView) (answer : CodeAnswers) (token : List ℕ) (s : State) (m : Move)
         → Allowed s m → IsLawful root answer token s m → IsSound root answer s
         → IsSound root answer (after s (token, m)) }
-    ensures kill { (root : PathView) (answer : Answers) (s t : State) (moves : Trace)
+    ensures kill { (root : PathView) (answer : CodeAnswers) (s t : State) (moves : Trace)
         → IsTrace s moves → AllSteps (IsLawful root answer) s moves → IsSound root answer s
         → KillLeaves s moves t → IsSound root answer t }
 {}
@@ -26,24 +26,24 @@ pub fn moves_keep_stores()
 /// A root with nothing at or below it but its folders is sound, where no file stands on the way to
 /// it and no node has two names; and so is the root of any location in an empty folder.
 pub fn absent_roots_are_sound()
-    ensures absent { (root : PathView) (answer : Answers) (s : State) → IsState s
+    ensures absent { (root : PathView) (answer : CodeAnswers) (s : State) → IsState s
         → ((p q : PathView) (n : ℕ) → place_at s p ≡ Some (Place.File n)
         → place_at s q ≡ Some (Place.File n) → p ≡ q)
         → ((p : PathView) (n : ℕ) → place_at s p ≡ Some (Place.File n) → IsOutside root p)
         → ((p : PathView) → place_at s p ≡ Some Place.Folder → IsBelow root p
         → IsStoreFolder root p) → IsSound root answer s }
-    ensures empty { (location : PathView) (answer : Answers)
+    ensures empty { (location : PathView) (answer : CodeAnswers)
         → IsSound (root_of location) answer bare_state }
 {}
 
 /// Where each run's moves are lawful wherever all moves before them are, every move is lawful and
 /// every state is sound.
 pub fn runs_compose()
-    ensures every_move { (root : PathView) (answer : Answers) (s : State) (moves : Trace)
+    ensures every_move { (root : PathView) (answer : CodeAnswers) (s : State) (moves : Trace)
         → ((token : List ℕ)
         → Throughout (IsLawful root answer) (IsLawful root answer) token s moves)
         → AllSteps (IsLawful root answer) s moves }
-    ensures every_state { (root : PathView) (answer : Answers) (s : State) (before rest : Trace)
+    ensures every_state { (root : PathView) (answer : CodeAnswers) (s : State) (before rest : Trace)
         → IsTrace s (before ++ rest) → IsSound root answer s
         → ((token : List ℕ)
         → Throughout (IsLawful root answer) (IsLawful root answer) token s (before ++ rest))
@@ -57,11 +57,11 @@ pub fn calls_compose()
         → IsTrace s first → ProperThroughout root token s first
         → ProperThroughout root token (run s first) second
         → ProperThroughout root token s (first ++ second) }
-    ensures lawful { (root : PathView) (answer : Answers) (token : List ℕ) (s : State)
+    ensures lawful { (root : PathView) (answer : CodeAnswers) (token : List ℕ) (s : State)
         (first second : Trace) → IsTrace s first → LawfulThroughout root answer token s first
         → LawfulThroughout root answer token (run s first) second
         → LawfulThroughout root answer token s (first ++ second) }
-    ensures true_renames { (root : PathView) (answer : Answers) (token : List ℕ) (s : State)
+    ensures true_renames { (root : PathView) (answer : CodeAnswers) (token : List ℕ) (s : State)
         (call : Trace) → ProperThroughout root token s call
         → Throughout (IsProper root) (λ t. RenamesTrue root answer) token s call
         → LawfulThroughout root answer token s call }

@@ -9,8 +9,8 @@ use Rattle.jl_rely.specs.Steps.{OwnMoves}
 use Rattle.jl_rely.specs.Claims.{GoesOn, Moves, Silent}
 use Rattle.jl_rely.proofs.Moving.{moves_then, moves_as}
 use Rattle.jl_store.specs.Kinds.{IsFor}
-use Rattle.jl_store.specs.Checking.{IsOfCode, IsWriting, IsChecking, Writes, Replaces, Stored, Checks, function_path, code_path, code_temp}
-use Rattle.jl_store.specs.Keeping.{Entry, IsKeeping, last_of, temp_of}
+use Rattle.jl_store.specs.Checking.{IsOfCode, IsWriting, IsChecking, WritesFirstCode, Replaces, Stored, Checks, function_path, code_path, code_temp}
+use Rattle.jl_store.specs.Keeping.{EntryPlace, IsKeeping, last_of, temp_of}
 use Rattle.jl_store.specs.Calling.{IsBeforeOutput, IsAnswering, IsWritingCall, IsCalling, ClearsOnlyAnothers}
 use Rattle.jl_store.specs.declared.checks.CodeCheck.{CodeCheck}
 use Rattle.jl_store.specs.declared.checks.CodeCheck.TheVariants as check
@@ -22,24 +22,24 @@ use Rattle.jl_store.proofs.KeepFacts.{for_keeping}
 -- ---- what the answer needs
 
 -- a value that was found needs its last access alone
-pub found_kinds : (r : Cached) (v : Value) (e : Entry) (token : List ℕ) → (r ≡ Hit v) ⊎ (r ≡ NoMemory) → (m : Move) → IsFor (last_of e Access) (temp_of e token Access) m → IsAnswering r e token m
+pub found_kinds : (r : Cached) (v : Value) (e : EntryPlace) (token : List ℕ) → (r ≡ Hit v) ⊎ (r ≡ NoMemory) → (m : Move) → IsFor (last_of e Access) (temp_of e token Access) m → IsAnswering r e token m
 found_kinds r v e token (inl is) m kind = subst (λ (k : Cached). IsAnswering k e token m) (sym is) kind
 found_kinds r v e token (inr is) m kind = subst (λ (k : Cached). IsAnswering k e token m) (sym is) (for_keeping e token Access m kind)
 
 -- one that was computed a whole entry
-pub computed_kinds : (r : Cached) (v : Value) (e : Entry) (token : List ℕ) → (r ≡ Computed v) ⊎ (r ≡ NoMemory) → (m : Move) → IsKeeping e token m → IsAnswering r e token m
+pub computed_kinds : (r : Cached) (v : Value) (e : EntryPlace) (token : List ℕ) → (r ≡ Computed v) ⊎ (r ≡ NoMemory) → (m : Move) → IsKeeping e token m → IsAnswering r e token m
 computed_kinds r v e token (inl is) m kind = subst (λ (k : Cached). IsAnswering k e token m) (sym is) kind
 computed_kinds r v e token (inr is) m kind = subst (λ (k : Cached). IsAnswering k e token m) (sym is) kind
 
 -- the check of the code comes before the output
-pub before_kinds : (e : Entry) (token : List ℕ) (m : Move) → IsChecking (function_path e.root e.module_name e.function_name) (code_path e.root e.module_name e.function_name) (code_temp e.root e.module_name e.function_name token) m → IsBeforeOutput e token m
+pub before_kinds : (e : EntryPlace) (token : List ℕ) (m : Move) → IsChecking (function_path e.root e.module_name e.function_name) (code_path e.root e.module_name e.function_name) (code_temp e.root e.module_name e.function_name token) m → IsBeforeOutput e token m
 before_kinds e token m (inl making) = inr (inl (inl making))
 before_kinds e token m (inr (inl clearing)) = inl clearing
 before_kinds e token m (inr (inr puts)) = inr (inl (inr puts))
 
 -- ---- the whole
 
-module _ (r : Cached) (e : Entry) (token : List ℕ) where
+module _ (r : Cached) (e : EntryPlace) (token : List ℕ) where
   abbrev home : PathView
   home = function_path e.root e.module_name e.function_name
 
@@ -58,7 +58,7 @@ module _ (r : Cached) (e : Entry) (token : List ℕ) where
   answering_kinds m kind = inr (inr kind)
 
 -- entries are cleared only where the check saw another code
-module _ (r : Cached) (e : Entry) (code : List ℕ) (old mid new : FolderView) (went : GoesOn old mid) (answers : Moves (IsAnswering r e mid.token) mid new) where
+module _ (r : Cached) (e : EntryPlace) (code : List ℕ) (old mid new : FolderView) (went : GoesOn old mid) (answers : Moves (IsAnswering r e mid.token) mid new) where
   abbrev temp' : PathView
   temp' = code_temp e.root e.module_name e.function_name old.token
 
@@ -70,7 +70,7 @@ module _ (r : Cached) (e : Entry) (code : List ℕ) (old mid new : FolderView) (
   silent : OwnMoves old.token Silent (moved old mid) → ClearsOnlyAnothers r e code old new
   silent own = spares Silent own (λ m kind. absurd kind)
 
-  writes : Writes (function_path e.root e.module_name e.function_name) (code_path e.root e.module_name e.function_name) temp' old mid → ClearsOnlyAnothers r e code old new
+  writes : WritesFirstCode (function_path e.root e.module_name e.function_name) (code_path e.root e.module_name e.function_name) temp' old mid → ClearsOnlyAnothers r e code old new
   writes w = spares (IsWriting (function_path e.root e.module_name e.function_name) (code_path e.root e.module_name e.function_name) temp') w.own (λ m kind. inl kind)
 
   replaces : Replaces (function_path e.root e.module_name e.function_name) (code_path e.root e.module_name e.function_name) temp' code old mid → ClearsOnlyAnothers r e code old new

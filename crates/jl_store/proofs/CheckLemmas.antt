@@ -16,7 +16,7 @@ use Rattle.jl_rely.proofs.Traces.{Throughout-weaken}
 use Rattle.jl_rely.proofs.Since.{moved_then, goes_none, goes_then}
 use Rattle.jl_rely.proofs.Moving.{moves_called, moves_waits, moves_then, moves_as, moves_none}
 use Rattle.jl_rely.proofs.Composed.{goes_waits, waits_called, then_called, called_for, either_then, carried_stable, not_called}
-use Rattle.jl_protocol.specs.Whole.{Answers, IsTruthful}
+use Rattle.jl_protocol.specs.Whole.{CodeAnswers, IsTruthful}
 use Rattle.jl_protocol.specs.Tidy.{IsTidy}
 use Rattle.jl_protocol.specs.Proper.{IsProper, IsLawful, RenamesTrue, LawfulThroughout}
 use Rattle.jl_protocol.proofs.Kills.{tidy_carried}
@@ -26,7 +26,7 @@ use Rattle.jl_store.specs.Doing.{IsMaking, IsClearing}
 use Rattle.jl_store.specs.Kinds.{IsFor, RenamesThis, PutsThis}
 use Rattle.jl_store.specs.Renames.{IsNoRename}
 use Rattle.jl_store.specs.Publishing.{EndsIn}
-use Rattle.jl_store.specs.Checking.{IsOfCode, IsHeld, Holds, AreFiles, IsDone, IsUnfitHeld, Comes, Stores, IsWriting, IsReplacing, MovesFor, IsChecking, Writes, Replaces, Stored, Checks, function_path, code_path, code_temp}
+use Rattle.jl_store.specs.Checking.{IsOfCode, IsHeld, Holds, AreFiles, IsCodePublished, IsUnfitHeld, Comes, Stores, IsWriting, IsReplacing, MovesFor, IsChecking, WritesFirstCode, Replaces, Stored, Checks, function_path, code_path, code_temp}
 use Rattle.jl_store.specs.declared.checks.CodeCheck.{CodeCheck}
 use Rattle.jl_store.specs.declared.checks.CodeCheck.TheVariants as check
 use Rattle.jl_store.specs.declared.checks.Held.{Held}
@@ -71,7 +71,7 @@ opened_more path P s xs ys o = record {
 
 module _ (files : CodeFiles) (bytes : List ℕ) where
   -- nothing was done
-  pub stores_none : (Kinds : Move → Type 0) (result : CodeCheck) (v : FolderView) → (IsDone result → ⊥) → (result ≡ check.StoreFault → ⊥) → Stores files bytes Kinds result v v
+  pub stores_none : (Kinds : Move → Type 0) (result : CodeCheck) (v : FolderView) → (IsCodePublished result → ⊥) → (result ≡ check.StoreFault → ⊥) → Stores files bytes Kinds result v v
   stores_none Kinds result v undone faultless = record {
     frame = answers_as v v (answers_none v) (λ e. faultless e) (λ bad. absurd bad);
     goes = λ t. goes_none v;
@@ -100,7 +100,7 @@ module _ (files : CodeFiles) (bytes : List ℕ) where
     }
 
     -- other moves alone
-    pub stores_only : {Fails : Type 0} (result : CodeCheck) (old new : FolderView) → FolderAnswers Fails old new → (result ≡ check.StoreFault → Fails) → (Fails → result ≡ check.StoreFault) → (old.told → Moves K old new) → (IsDone result → ⊥) → Stores files bytes Both result old new
+    pub stores_only : {Fails : Type 0} (result : CodeCheck) (old new : FolderView) → FolderAnswers Fails old new → (result ≡ check.StoreFault → Fails) → (Fails → result ≡ check.StoreFault) → (old.told → Moves K old new) → (IsCodePublished result → ⊥) → Stores files bytes Both result old new
     stores_only result old new frame to from a undone = record {
       frame = answers_as old new frame to from;
       goes = λ t. (a t).went;
@@ -178,7 +178,7 @@ module _ (root : PathView) (m f token : List ℕ) (files : CodeFiles) (are : Are
     kinds_as : (k : Held) → h ≡ k → (n : Move) → MovesFor files h n → MovesFor files k n
     kinds_as k e n is = subst (λ (x : Held). MovesFor files x n) e is
 
-    was_absent : h ≡ held.Absent → Writes home last temp old new
+    was_absent : h ≡ held.Absent → WritesFirstCode home last temp old new
     was_absent e = record {
       absent =
           subst (λ (p : PathView). AtSome (state old) (moved old new) (λ s. is_file s p ≡ false)) are.1.is
@@ -209,7 +209,7 @@ module _ (root : PathView) (m f token : List ℕ) (files : CodeFiles) (are : Are
     any_by held.Fault e = inl (silent held.Fault e (λ n is. is))
     any_by held.NoMemory e = inl (silent held.NoMemory e (λ n is. is))
 
-    pub check_checks : (result : CodeCheck) → Comes result h → (IsDone result → EndsIn (mid.token, Rename files.temp files.last) (moved mid new)) → Checks result home last temp code old new
+    pub check_checks : (result : CodeCheck) → Comes result h → (IsCodePublished result → EndsIn (mid.token, Rename files.temp files.last) (moved mid new)) → Checks result home last temp code old new
     check_checks result comes ends = by_case result comes ends
       where
         end : EndsIn (mid.token, Rename files.temp files.last) (moved mid new) → EndsIn (old.token, Rename temp last) (moved old new)
@@ -217,7 +217,7 @@ module _ (root : PathView) (m f token : List ℕ) (files : CodeFiles) (are : Are
             subst (λ (p : PathView). EndsIn (old.token, Rename p last) (moved old new)) are.2.is
             (subst (λ (p : PathView). EndsIn (old.token, Rename files.temp p) (moved old new)) are.1.is (ends_later (Rename files.temp files.last) old mid new goes moves.went e))
 
-        by_case : (r : CodeCheck) → Comes r h → (IsDone r → EndsIn (mid.token, Rename files.temp files.last) (moved mid new)) → Checks r home last temp code old new
+        by_case : (r : CodeCheck) → Comes r h → (IsCodePublished r → EndsIn (mid.token, Rename files.temp files.last) (moved mid new)) → Checks r home last temp code old new
         by_case check.Same c e = (opened_last (IsOfCode code) (held_as held.Same c), silent held.Same c (λ n is. is))
         by_case check.Written c e = (was_absent c, end (e tt))
         by_case check.Cleared c e = (was_another c, end (e tt))
@@ -261,7 +261,7 @@ check_frame h r old mid new comes a b = record {
 -- ---- lawful
 
 -- renaming to a code's file is true of any library
-renames_code : (root : PathView) (answer : Answers) (m f : List ℕ) (last : PathView) → IsFinal root (code_of m f) last → (bytes : List ℕ) (s : State) (n : Move) → RenamesThis last bytes s n → RenamesTrue root answer s n
+renames_code : (root : PathView) (answer : CodeAnswers) (m f : List ℕ) (last : PathView) → IsFinal root (code_of m f) last → (bytes : List ℕ) (s : State) (n : Move) → RenamesThis last bytes s n → RenamesTrue root answer s n
 unfolding RenamesThis RenamesTrue IsTruthful
 renames_code root answer m f path final bytes s (MakeDir p) r = tt
 renames_code root answer m f path final bytes s (Create p n) r = tt
@@ -272,7 +272,7 @@ renames_code root answer m f path final bytes s (Rename p q) r = λ x other n v 
 renames_code root answer m f path final bytes s (Remove p) r = tt
 renames_code root answer m f path final bytes s (RemoveDir p) r = tt
 
-pub lawful_code : (root : PathView) (m f : List ℕ) (last : PathView) → IsFinal root (code_of m f) last → (bytes : List ℕ) (Kinds : Move → Type 0) (old new : FolderView) → Called (IsProper root) (PutsThis root last bytes) Kinds (IsTidy root) Anywhere old new → (answer : Answers) → LawfulThroughout root answer old.token (state old) (moved old new)
+pub lawful_code : (root : PathView) (m f : List ℕ) (last : PathView) → IsFinal root (code_of m f) last → (bytes : List ℕ) (Kinds : Move → Type 0) (old new : FolderView) → Called (IsProper root) (PutsThis root last bytes) Kinds (IsTidy root) Anywhere old new → (answer : CodeAnswers) → LawfulThroughout root answer old.token (state old) (moved old new)
 unfolding LawfulThroughout
 lawful_code root m f last final bytes Kinds old new call answer sound =
     Throughout-weaken (IsProper root) (PutsThis root last bytes) (IsLawful root answer) (IsLawful root answer) (λ t s n lawful. lawful.0)

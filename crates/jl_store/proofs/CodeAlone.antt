@@ -18,7 +18,7 @@ use Rattle.jl_clear.proofs.Folders.{entry_in, entry_place}
 use Rattle.jl_clear.proofs.Listings.{front_none, no_moves}
 use Rattle.jl_store.specs.Doing.{IsPrefix}
 use Rattle.jl_store.specs.Publishing.{IsPublished}
-use Rattle.jl_store.specs.Checking.{IsOfCode, Holds, AreFiles, IsDone, Comes, check_of, function_path, code_path, code_temp}
+use Rattle.jl_store.specs.Checking.{IsOfCode, Holds, AreFiles, IsCodePublished, Comes, check_of, function_path, code_path, code_temp}
 use Rattle.jl_store.specs.Next.{FileHas, IsInEntry, WritesCode, ReplacesCode, ChecksAlone}
 use Rattle.jl_store.specs.Alone.{HasFolders, HasNoEntries, LeavesCode}
 use Rattle.jl_store.specs.declared.files.Published.{Published}
@@ -33,10 +33,10 @@ use Rattle.jl_store.proofs.Drafts.{beside_same}
 -- ---- answers
 
 -- what was done was published
-pub done_published : (p : Published) (d : CodeCheck) (r : CodeCheck) → r ≡ check_of p d → IsDone r → p ≡ published.Done
-done_published p d r is done = by_case p (subst IsDone is done)
+pub done_published : (p : Published) (d : CodeCheck) (r : CodeCheck) → r ≡ check_of p d → IsCodePublished r → p ≡ published.Done
+done_published p d r is done = by_case p (subst IsCodePublished is done)
   where
-    by_case : (q : Published) → IsDone (check_of q d) → q ≡ published.Done
+    by_case : (q : Published) → IsCodePublished (check_of q d) → q ≡ published.Done
     by_case published.Done h = refl
     by_case published.Skipped h = absurd h
     by_case published.Fault h = absurd h

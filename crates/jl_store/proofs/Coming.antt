@@ -10,7 +10,7 @@ use Rattle.jl_rely.specs.Claims.{GoesOn}
 use Rattle.jl_clear.proofs.DoingLemmas.{rose_later, later_rose}
 use Rattle.jl_store.specs.Asked.{Asked, output_asked}
 use Rattle.jl_store.specs.Cached.{ComesBy, ComesTidy, IsMissed}
-use Rattle.jl_store.specs.Looking.{FindsAsked, Missing, absent, failed, other, damaged, IsMissing, StandsWith, Stands, HadNone}
+use Rattle.jl_store.specs.Looking.{FindsAsked, Missing, absent, failed, other, damaged, IsMissing, StandsWith, HasEntryOf, HadNone}
 use Rattle.jl_store.specs.declared.cached.Cached.{Cached}
 use Rattle.jl_store.specs.declared.cached.Cached.TheVariants.{Hit, Computed, Error, NoMemory}
 use Rattle.jl_store.specs.declared.found.Found.TheVariants as found
@@ -22,7 +22,7 @@ module _ (a : Asked) (old mid new : FolderView) (keeps : FolderKeeps old mid) (k
 
   -- no entry of this code and these arguments stands
   abbrev None' : State → Type 0
-  None' s = Stands (output_asked a) a.code a.args s → ⊥
+  None' s = HasEntryOf (output_asked a) a.code a.args s → ⊥
 
   -- ---- at its beginning
 

@@ -32,7 +32,7 @@ use Rattle.jl_protocol.proofs.Kills.{tidy_carried}
 use Rattle.jl_protocol.proofs.LawfulCalls.{always_make_dir}
 use Rattle.jl_clear.specs.Taking.{IsBeside}
 use Rattle.jl_clear.proofs.Folders.{final_no_folder, temp_no_folder}
-use Rattle.jl_store.specs.Keeping.{Entry, entry_path, function_path, file_of, last_of, temp_of, IsKeeping, IsMakingEntry, RenamesEntry, PutsEntry, UsesEntry, Keeps, IsReadyFor, AreReady, IsAnyFile, made_of}
+use Rattle.jl_store.specs.Keeping.{EntryPlace, entry_path, function_path, file_of, last_of, temp_of, IsKeeping, IsMakingEntry, RenamesEntry, PutsEntry, UsesEntry, KeepsEntry, IsReadyFor, AreReady, IsAnyFile, made_of}
 use Rattle.jl_store.specs.declared.answer.Keep.TheVariants as keep
 use Rattle.jl_store.proofs.Drafts.{beside_same, untouched, bytes_stay}
 use Rattle.jl_store.proofs.EntryNames.{IsNamed, final_of, temp_is, entry_in_store, entry_parent, entry_home, entry_not_last, entry_not_temp}
@@ -44,11 +44,11 @@ MakesThis p m = m ≡ MakeDir p
 makes_apart : (p x : PathView) → x ≢ p → IsApart (MakesThis p) x
 makes_apart p x ne m is touch = ne (subst (λ n. Touches n x) is touch)
 
-keeping_makes : (e : Entry) (token : List ℕ) → IsKeeping e token (MakeDir (entry_path e))
+keeping_makes : (e : EntryPlace) (token : List ℕ) → IsKeeping e token (MakeDir (entry_path e))
 unfolding IsKeeping
 keeping_makes e token = refl
 
-renames_no_dir : (e : Entry) (text : EntryFile → List ℕ) (s : State) (p : PathView) → RenamesEntry e text s (MakeDir p)
+renames_no_dir : (e : EntryPlace) (text : EntryFile → List ℕ) (s : State) (p : PathView) → RenamesEntry e text s (MakeDir p)
 unfolding RenamesEntry
 renames_no_dir e text s p = tt
 
@@ -64,7 +64,7 @@ made_fault made_dir.NoParent e' = absurd (cc)
 made_fault made_dir.Failed e' = refl
 made_fault made_dir.NoMemory e' = absurd (cc)
 
-module _ (e : Entry) (named : IsNamed e) (old new : FolderView) (same : new.token ≡ old.token) (ok : IsTrue (is_token old.token)) where
+module _ (e : EntryPlace) (named : IsNamed e) (old new : FolderView) (same : new.token ≡ old.token) (ok : IsTrue (is_token old.token)) where
   abbrev token : List ℕ
   token = old.token
 
@@ -98,7 +98,7 @@ module _ (e : Entry) (named : IsNamed e) (old new : FolderView) (same : new.toke
   missed made_dir.Failed call is was = absurd (cc)
   missed made_dir.NoMemory call is was = absurd (cc)
 
-  pub made_keeps : (text : EntryFile → List ℕ) (r : MadeDir) → Call old new (MakesDir (entry_path e) r) → Keeps e text (λ s. is_folder s (function_path e) ≡ true) (λ steps. Unit {0}) (made_of r) old new
+  pub made_keeps : (text : EntryFile → List ℕ) (r : MadeDir) → Call old new (MakesDir (entry_path e) r) → KeepsEntry e text (λ s. is_folder s (function_path e) ≡ true) (λ steps. Unit {0}) (made_of r) old new
   made_keeps text r call = record {
     call = turn_called (IsProper e.root) (PutsEntry e text) (IsKeeping e token) (IsTidy e.root) Anywhere (MakesDir (entry_path e) r) old new (carried_stable (IsProper e.root) token (IsTidy e.root) (tidy_carried e.root)) same call (owns text r);
     kept = λ is. tt;

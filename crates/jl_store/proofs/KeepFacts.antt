@@ -24,7 +24,7 @@ use Rattle.jl_clear.specs.Taking.{IsBeside}
 use Rattle.jl_clear.proofs.Folders.{final_no_folder, temp_no_folder}
 use Rattle.jl_store.specs.Kinds.{IsFor, RenamesThis, PutsThis, UsesNames}
 use Rattle.jl_store.specs.Publishing.{EndsIn, Publishes, IsPublished}
-use Rattle.jl_store.specs.Keeping.{Entry, entry_path, file_of, last_of, temp_of, IsKeeping, RenamesEntry, PutsEntry, UsesEntry, UsesFiles, Includes, HasPut, Keeps, KeepsFile, IsReadyFor, HasFiles, HasEntry, AreReady, IsMoments, IsAnyFile, IsReadyToTouch, keep_of}
+use Rattle.jl_store.specs.Keeping.{EntryPlace, entry_path, file_of, last_of, temp_of, IsKeeping, RenamesEntry, PutsEntry, UsesEntry, UsesFiles, Includes, HasPut, KeepsEntry, KeepsFile, IsReadyFor, HasFiles, HasEntry, AreReady, IsMoments, IsAnyFile, IsReadyToTouch, keep_of}
 use Rattle.jl_store.specs.declared.files.Published.{Published}
 use Rattle.jl_store.specs.declared.files.Published.TheVariants as published
 use Rattle.jl_store.specs.declared.answer.Keep.{Keep}
@@ -34,7 +34,7 @@ use Rattle.jl_store.proofs.EntryNames.{IsNamed, final_of, temp_is, last_parent, 
 
 -- ---- one file
 
-pub for_keeping : (e : Entry) (token : List ℕ) (file : EntryFile) (m : Move) → IsFor (last_of e file) (temp_of e token file) m → IsKeeping e token m
+pub for_keeping : (e : EntryPlace) (token : List ℕ) (file : EntryFile) (m : Move) → IsFor (last_of e file) (temp_of e token file) m → IsKeeping e token m
 unfolding IsFor IsKeeping
 for_keeping e token file (MakeDir p) is = absurd is
 for_keeping e token file (Create p n) is = (file, is)
@@ -43,7 +43,7 @@ for_keeping e token file (Rename p q) is = (file, is.0, is.1)
 for_keeping e token file (Remove p) is = (file, is)
 for_keeping e token file (RemoveDir p) is = is
 
-pub renames_file : (e : Entry) (text : EntryFile → List ℕ) (file : EntryFile) (s : State) (m : Move) → RenamesThis (last_of e file) (text file) s m → RenamesEntry e text s m
+pub renames_file : (e : EntryPlace) (text : EntryFile → List ℕ) (file : EntryFile) (s : State) (m : Move) → RenamesThis (last_of e file) (text file) s m → RenamesEntry e text s m
 unfolding RenamesThis RenamesEntry
 renames_file e text file s (MakeDir p) is = tt
 renames_file e text file s (Create p n) is = tt
@@ -52,7 +52,7 @@ renames_file e text file s (Rename p q) is = (file, is.0, is.1)
 renames_file e text file s (Remove p) is = tt
 renames_file e text file s (RemoveDir p) is = tt
 
-names_used : (e : Entry) (token : List ℕ) (file : EntryFile) (p : PathView) → UsesNames (last_of e file) (temp_of e token file) p → UsesEntry e token p
+names_used : (e : EntryPlace) (token : List ℕ) (file : EntryFile) (p : PathView) → UsesNames (last_of e file) (temp_of e token file) p → UsesEntry e token p
 names_used e token file p (inl is) = inl (file, inl is)
 names_used e token file p (inr (inl is)) = inl (file, inr is)
 names_used e token file p (inr (inr is)) = inr (inl (is ∙ last_parent e file))
@@ -78,7 +78,7 @@ skipped_if published.Skipped is = refl
 skipped_if published.Fault is = absurd (cc)
 skipped_if published.NoMemory is = absurd (cc)
 
-module _ (e : Entry) (file : EntryFile) (old new : FolderView) where
+module _ (e : EntryPlace) (file : EntryFile) (old new : FolderView) where
   abbrev token : List ℕ
   token = old.token
 
@@ -102,7 +102,7 @@ module _ (e : Entry) (file : EntryFile) (old new : FolderView) where
   file_from bytes Ready Ready' r skipped keeps = record { call = keeps.call; once = keeps.once; kept = keeps.kept; skipped = skipped }
 
   -- one file is a part of the entry
-  pub file_part : (text : EntryFile → List ℕ) (r : Keep) → KeepsFile e file (text file) (IsReadyFor e token file) r old new → Keeps e text (IsReadyFor e token file) (HasPut e token file) r old new
+  pub file_part : (text : EntryFile → List ℕ) (r : Keep) → KeepsFile e file (text file) (IsReadyFor e token file) r old new → KeepsEntry e text (IsReadyFor e token file) (HasPut e token file) r old new
   file_part text r keeps = record {
     call = called_as (IsProper e.root) (IsProper e.root) (PutsThis e.root (last_of e file) (text file)) (PutsEntry e text) (IsFor (last_of e file) (temp_of e token file)) (IsKeeping e token) (IsTidy e.root) (IsTidy e.root) Anywhere Anywhere old new
         (λ t s m given. given) (λ t s m owed. (owed.0, renames_file e text file s m owed.1)) (for_keeping e token file) (λ s tidy. tidy) (λ s post. tt) keeps.call;
@@ -118,7 +118,7 @@ module _ (e : Entry) (file : EntryFile) (old new : FolderView) where
   }
 
 -- nothing was done
-pub nothing_filed : (e : Entry) (file : EntryFile) (bytes : List ℕ) (Ready : State → Type 0) (v : FolderView) → KeepsFile e file bytes Ready keep.NoMemory v v
+pub nothing_filed : (e : EntryPlace) (file : EntryFile) (bytes : List ℕ) (Ready : State → Type 0) (v : FolderView) → KeepsFile e file bytes Ready keep.NoMemory v v
 nothing_filed e file bytes Ready v = record {
   call = not_called (IsProper e.root) (PutsThis e.root (last_of e file) bytes) (IsFor (last_of e file) (temp_of e v.token file)) (IsTidy e.root) Anywhere v (λ s tidy. tt);
   once = turns_none (last_of e file ∷ []) v;
@@ -126,7 +126,7 @@ nothing_filed e file bytes Ready v = record {
   skipped = λ (is : keep.NoMemory ≡ keep.Skipped). absurd (cc);
 }
 
-pub nothing_keeps : (e : Entry) (text : EntryFile → List ℕ) (Ready : State → Type 0) (Done : Trace → Type 0) (v : FolderView) → Keeps e text Ready Done keep.NoMemory v v
+pub nothing_keeps : (e : EntryPlace) (text : EntryFile → List ℕ) (Ready : State → Type 0) (Done : Trace → Type 0) (v : FolderView) → KeepsEntry e text Ready Done keep.NoMemory v v
 nothing_keeps e text Ready Done v = record {
   call = not_called (IsProper e.root) (PutsEntry e text) (IsKeeping e v.token) (IsTidy e.root) Anywhere v (λ s tidy. tt);
   kept = λ (is : keep.NoMemory ≡ keep.Kept). absurd (cc);
@@ -142,14 +142,14 @@ pub includes_right : (step : Event) (xs ys : Trace) → Includes step ys → Inc
 includes_right step xs ys has = (xs ++ has.0, has.1, ap (λ (l : Trace). xs ++ l) has.2 ∙ sym (append_assoc xs has.0 (step ∷ has.1)))
 
 -- a later part, by the token of the first
-pub keeps_as : (e : Entry) (text : EntryFile → List ℕ) (Ready : State → Type 0) (Done : Trace → Type 0) (r : Keep) (mid new : FolderView) (token : List ℕ) → mid.token ≡ token → Keeps e text Ready Done r mid new
+pub keeps_as : (e : EntryPlace) (text : EntryFile → List ℕ) (Ready : State → Type 0) (Done : Trace → Type 0) (r : Keep) (mid new : FolderView) (token : List ℕ) → mid.token ≡ token → KeepsEntry e text Ready Done r mid new
     → Called (IsProper e.root) (PutsEntry e text) (IsKeeping e token) (IsTidy e.root) Anywhere mid new
 keeps_as e text Ready Done r mid new mine same b =
     subst (λ (u : List ℕ). Called (IsProper e.root) (PutsEntry e text) (IsKeeping e u) (IsTidy e.root) Anywhere mid new) same b.call
 
-pub keeps_then : (e : Entry) (text : EntryFile → List ℕ) (Ready First Second : State → Type 0) (Done Put More : Trace → Type 0) (old mid new : FolderView) (r : Keep) →
+pub keeps_then : (e : EntryPlace) (text : EntryFile → List ℕ) (Ready First Second : State → Type 0) (Done Put More : Trace → Type 0) (old mid new : FolderView) (r : Keep) →
     (Ready (state old) → Second (state mid) ⊎ TouchedByOther old.token (UsesEntry e old.token) (moved old mid)) → ((xs ys : Trace) → Put xs → More ys → Done (xs ++ ys)) →
-    Keeps e text First Put keep.Kept old mid → Keeps e text Second More r mid new → Keeps e text Ready Done r old new
+    KeepsEntry e text First Put keep.Kept old mid → KeepsEntry e text Second More r mid new → KeepsEntry e text Ready Done r old new
 keeps_then e text Ready First Second Done Put More old mid new r ready done a b =
     let goes = a.call.went in
     let on = b.call.went in
@@ -169,7 +169,7 @@ keeps_then e text Ready First Second Done Put More old mid new r ready done a b 
     }
 
 -- a part that wasn't kept ends the keeping
-pub keeps_ends : (e : Entry) (text : EntryFile → List ℕ) (Ready First : State → Type 0) (Done Put : Trace → Type 0) (old new : FolderView) (r : Keep) → ((s : State) → Ready s → First s) → (r ≡ keep.Kept → ⊥) → Keeps e text First Put r old new → Keeps e text Ready Done r old new
+pub keeps_ends : (e : EntryPlace) (text : EntryFile → List ℕ) (Ready First : State → Type 0) (Done Put : Trace → Type 0) (old new : FolderView) (r : Keep) → ((s : State) → Ready s → First s) → (r ≡ keep.Kept → ⊥) → KeepsEntry e text First Put r old new → KeepsEntry e text Ready Done r old new
 keeps_ends e text Ready First Done Put old new r ready not_kept a = record {
   call = a.call;
   kept = λ is. absurd (not_kept is);
@@ -177,7 +177,7 @@ keeps_ends e text Ready First Done Put old new r ready not_kept a = record {
 }
 
 -- what is ready for a file stays so while another file is published, or another touched it
-pub ready_on : (e : Entry) (j k : EntryFile) → k ≢ j → (old new : FolderView) → Moves (IsFor (last_of e j) (temp_of e old.token j)) old new → IsReadyFor e old.token k (state old) → IsReadyFor e old.token k (state new) ⊎ TouchedByOther old.token (UsesEntry e old.token) (moved old new)
+pub ready_on : (e : EntryPlace) (j k : EntryFile) → k ≢ j → (old new : FolderView) → Moves (IsFor (last_of e j) (temp_of e old.token j)) old new → IsReadyFor e old.token k (state old) → IsReadyFor e old.token k (state new) ⊎ TouchedByOther old.token (UsesEntry e old.token) (moved old new)
 ready_on e j k ne old new moves ready =
     let token = old.token in
     let same : (x : PathView) → UsesEntry e old.token x → x ≢ last_of e j → x ≢ temp_of e old.token j → (place_at (state new) x ≡ place_at (state old) x) ⊎ TouchedByOther old.token (UsesEntry e old.token) (moved old new) =
@@ -201,7 +201,7 @@ ready_on e j k ne old new moves ready =
     (same (entry_path e) (inr (inl refl)) (entry_not_last e j) (entry_not_temp e token j))
 
 -- alone: one file, and then others
-pub files_then : (e : Entry) (token : List ℕ) (text : EntryFile → List ℕ) (One More All : EntryFile → Type 0) (s t u : State) → ((j k : EntryFile) → One j → More k → j ≢ k) → ((file : EntryFile) → All file → One file ⊎ More file) → ((file : EntryFile) → One file → All file) → ((file : EntryFile) → More file → All file) →
+pub files_then : (e : EntryPlace) (token : List ℕ) (text : EntryFile → List ℕ) (One More All : EntryFile → Type 0) (s t u : State) → ((j k : EntryFile) → One j → More k → j ≢ k) → ((file : EntryFile) → All file → One file ⊎ More file) → ((file : EntryFile) → One file → All file) → ((file : EntryFile) → More file → All file) →
     HasFiles e token text One s t → HasFiles e token text More t u → HasFiles e token text All s u
 files_then e token text One More All s t u apart split one more a b = record {
   has = λ file is. ⊎_elim (λ (mine : One file). (b.beside (last_of e file) (λ used. not_last file mine used)).1 ∙ a.has file mine) (λ (later : More file). b.has file later) (split file is);
@@ -220,7 +220,7 @@ files_then e token text One More All s t u apart split one more a b = record {
         ⊎_elim (λ (is : temp_of e token file ≡ last_of e used.0). temp_not_last e token file used.0 (apart file used.0 mine used.1) is) (λ (is : temp_of e token file ≡ temp_of e token used.0). temp_not_temp e token file used.0 (apart file used.0 mine used.1) is) used.2
 
 -- the files after the output are ready while that is published, or another touched them
-pub moments_ready : (e : Entry) (old new : FolderView) → Moves (IsFor (last_of e Output) (temp_of e old.token Output)) old new → AreReady e old.token IsAnyFile (state old) → AreReady e old.token IsMoments (state new) ⊎ TouchedByOther old.token (UsesEntry e old.token) (moved old new)
+pub moments_ready : (e : EntryPlace) (old new : FolderView) → Moves (IsFor (last_of e Output) (temp_of e old.token Output)) old new → AreReady e old.token IsAnyFile (state old) → AreReady e old.token IsMoments (state new) ⊎ TouchedByOther old.token (UsesEntry e old.token) (moved old new)
 moments_ready e old new moves ready =
     ⊎_elim
     (λ (a : IsReadyFor e old.token Metadata (state new)).
@@ -253,7 +253,7 @@ and_right true b e = e
 and_right false b e = cc
 
 -- the folder and all its files, alone
-pub entry_has : (e : Entry) (token : List ℕ) (text : EntryFile → List ℕ) (s t u : State) → IsState u → IsBeside (λ p. p ≡ entry_path e) s t → HasFiles e token text IsAnyFile t u → HasEntry e token text s u
+pub entry_has : (e : EntryPlace) (token : List ℕ) (text : EntryFile → List ℕ) (s t u : State) → IsState u → IsBeside (λ p. p ≡ entry_path e) s t → HasFiles e token text IsAnyFile t u → HasEntry e token text s u
 entry_has e mine text s t u ok made files = record {
   folder = subst (λ p. is_folder u p ≡ true) (last_parent e Output)
       (and_right (not (is_fixed (last_of e Output))) (is_folder u (parent (last_of e Output))) (ok.parents (last_of e Output) (last_free e Output) (named_some u (place_at u (last_of e Output)) (text Output) (files.has Output tt))));
@@ -265,7 +265,7 @@ entry_has e mine text s t u ok made files = record {
 }
 
 -- in a tidy state, where the entry's folder is there, a file is ready
-pub touch_ready : (e : Entry) (token : List ℕ) → IsNamed e → IsTrue (is_token token) → (file : EntryFile) (s : State) → IsReadyToTouch e s → IsReadyFor e token file s
+pub touch_ready : (e : EntryPlace) (token : List ℕ) → IsNamed e → IsTrue (is_token token) → (file : EntryFile) (s : State) → IsReadyToTouch e s → IsReadyFor e token file s
 touch_ready e token named ok file s ready = record {
   home = ready.1;
   last_free = final_no_folder e.root (file_of e file) (last_of e file) s (final_of e named file) ready.0;

@@ -10,17 +10,17 @@ use Rattle.jl_rely.specs.Claims.{Called, GoesOn}
 use Rattle.jl_rely.proofs.Since.{moved_then, state_after}
 use Rattle.jl_rely.proofs.Traces.{AllSteps-left, AllSteps-right, Throughout-weaken, OwnMoves-weaken}
 use Rattle.jl_rely.proofs.Composed.{carried_stable, waits_called, not_called, then_called, called_for}
-use Rattle.jl_protocol.specs.Whole.{Answers}
+use Rattle.jl_protocol.specs.Whole.{CodeAnswers}
 use Rattle.jl_protocol.specs.Tidy.{IsTidy, IsSound}
 use Rattle.jl_protocol.specs.Proper.{IsProper, IsLawful, RenamesTrue, LawfulThroughout}
 use Rattle.jl_protocol.proofs.Kills.{sound_carried, sound_at_end}
 use Rattle.jl_store.specs.Trust.{IsTrusted}
 
 -- lawful throughout, from a sound state to one, by own moves of these kinds
-abbrev pub Lawfully : PathView → Answers → (Move → Type 0) → FolderView → FolderView → Type 0
+abbrev pub Lawfully : PathView → CodeAnswers → (Move → Type 0) → FolderView → FolderView → Type 0
 Lawfully root answer Kinds old new = Called (IsLawful root answer) (IsLawful root answer) Kinds (IsSound root answer) (IsSound root answer) old new
 
-module _ (root : PathView) (answer : Answers) (Kinds : Move → Type 0) where
+module _ (root : PathView) (answer : CodeAnswers) (Kinds : Move → Type 0) where
   -- while others move
   pub lawful_waits : (old new : FolderView) → new.token ≡ old.token → Waits old new → Lawfully root answer Kinds old new
   lawful_waits old new same waits =
@@ -60,7 +60,7 @@ module _ (root : PathView) (answer : Answers) (Kinds : Move → Type 0) where
 
 -- ---- where the whole may be trusted, its parts may
 
-module _ (root : PathView) (answer : Answers) (old mid new : FolderView) where
+module _ (root : PathView) (answer : CodeAnswers) (old mid new : FolderView) where
   all_parts : GoesOn old mid → GoesOn mid new → IsTrusted root answer old new → AllSteps (IsLawful root answer) (state old) (moved old mid ++ moved mid new)
   all_parts a b trust = subst (AllSteps (IsLawful root answer) (state old)) (moved_then old mid new a b) trust.2
 

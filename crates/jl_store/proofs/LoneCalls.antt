@@ -22,7 +22,7 @@ use Rattle.jl_rely.proofs.Since.{state_after}
 use Rattle.jl_rely.proofs.Traces.{AllSteps-weaken}
 use Rattle.jl_protocol.specs.Proper.{IsProper, IsLawful}
 use Rattle.jl_protocol.specs.Tidy.{IsTidy, IsSound}
-use Rattle.jl_protocol.specs.Whole.{Answers}
+use Rattle.jl_protocol.specs.Whole.{CodeAnswers}
 use Rattle.jl_protocol.proofs.Kills.{tidy_at_end}
 use Rattle.jl_clear.proofs.Listings.{no_moves}
 use Rattle.jl_store.specs.Warned.{IsOrderly, UsesCall, IsCaused, AreCaused, Warns, AreOthers, WarnsOfOthers}
@@ -32,7 +32,7 @@ use Rattle.jl_store.specs.declared.checks.CodeCheck.{CodeCheck}
 use Rattle.jl_store.specs.declared.checks.CodeCheck.TheVariants as check
 use Rattle.jl_store.specs.Keeping.{HasEntry, last_of, temp_of, texts}
 use Rattle.jl_store.specs.Asked.{Asked, output_asked}
-use Rattle.jl_store.specs.Looking.{StandsWith, Stands, HadNone, LooksTidy}
+use Rattle.jl_store.specs.Looking.{StandsWith, HasEntryOf, HadNone, LooksTidy}
 use Rattle.jl_store.specs.Next.{entry_asked, AnswersAlone, AfterCheck, ChecksAlone, LeavesNext, AreTimed, LeftAfter}
 use Rattle.jl_store.specs.Parts.{HasFolder}
 use Rattle.jl_store.specs.declared.answer.Keep.{Keep}
@@ -95,11 +95,11 @@ module _ (a : Asked) (ws ws' : List Warning) (old new : FolderView) (waits : Wai
       at_none (state old) (StandsWith (output_asked a) a.code a.args (tree_of v)) (subst (λ (xs : Trace). AtSome (state old) xs (StandsWith (output_asked a) a.code a.args (tree_of v))) none (looks orderly))
 
   -- where none was found, none stands
-  pub look_miss : (IsOrderly a.root old new → LooksTidy look.Miss a ws ws' old new) → (Rose old.faults new.faults → ⊥) → Stands (output_asked a) a.code a.args (state old) → ⊥
+  pub look_miss : (IsOrderly a.root old new → LooksTidy look.Miss a ws ws' old new) → (Rose old.faults new.faults → ⊥) → HasEntryOf (output_asked a) a.code a.args (state old) → ⊥
   look_miss looks rose =
       ⊎_elim
       (λ (at : HadNone a old new).
-      at_none (state old) (λ (u : State). Stands (output_asked a) a.code a.args u → ⊥) (subst (λ (xs : Trace). AtSome (state old) xs (λ (u : State). Stands (output_asked a) a.code a.args u → ⊥)) none at))
+      at_none (state old) (λ (u : State). HasEntryOf (output_asked a) a.code a.args u → ⊥) (subst (λ (xs : Trace). AtSome (state old) xs (λ (u : State). HasEntryOf (output_asked a) a.code a.args u → ⊥)) none at))
       (λ (r : Rose old.faults new.faults). absurd (rose r))
       (looks orderly).0
 
@@ -119,14 +119,14 @@ module _ (a : Asked) (s t : State) (host : HostView) where
   found_leaves r v (inl e) stands alone = let h = alone e in subst (λ (k : Cached). LeavesAnswer k a s t host) (sym e) (0, h.0, (stands, h.1), h.2)
   found_leaves r v (inr e) stands alone = subst (λ (k : Cached). LeavesAnswer k a s t host) (sym e) memory_leaves
 
-  pub computed_leaves : (r : Cached) (v : Value) (duration moment : ℕ) → (r ≡ Computed v) ⊎ (r ≡ NoMemory) → (Stands (output_asked a) a.code a.args s → ⊥)
+  pub computed_leaves : (r : Cached) (v : Value) (duration moment : ℕ) → (r ≡ Computed v) ⊎ (r ≡ NoMemory) → (HasEntryOf (output_asked a) a.code a.args s → ⊥)
       → (r ≡ Computed v → HasEntry (entry_asked a) a.token (texts a.code a.args (tree_of v) duration moment) s t)
       → (host.told → AreTimed (Computed v) duration moment host)
       → LeavesAnswer r a s t host
   computed_leaves r v duration moment (inl e) stands alone timed = subst (λ (k : Cached). LeavesAnswer k a s t host) (sym e) (duration, moment, (stands, alone e), timed)
   computed_leaves r v duration moment (inr e) stands alone timed = subst (λ (k : Cached). LeavesAnswer k a s t host) (sym e) memory_leaves
 
-pub error_leaves : (a : Asked) (s : State) (host : HostView) (e : TaskError) → (Stands (output_asked a) a.code a.args s → ⊥) → LeavesAnswer (Error e) a s s host
+pub error_leaves : (a : Asked) (s : State) (host : HostView) (e : TaskError) → (HasEntryOf (output_asked a) a.code a.args s → ⊥) → LeavesAnswer (Error e) a s s host
 error_leaves a s host e stands = (0, 0, (stands, λ p unused. (refl, refl)), λ is. tt)
 
 -- how many moments are left
@@ -188,7 +188,7 @@ module _ (a : Asked) (old new : FolderView) (told : old.told) (orderly : IsOrder
   all_others (w ∷ ws) caused = (one_other w.kind caused.0.2, all_others ws caused.1)
 
 -- where no other moved and no fault rose, a call that is lawful throughout warns of others' entries alone
-pub lone_warns : (a : Asked) (answer : Answers) (Kinds : Move → Type 0) (old new : FolderView) (ws ws' : List Warning) → old.token ≡ a.token → old.told → Warns a ws ws' old new → Lawfully a.root answer Kinds old new
+pub lone_warns : (a : Asked) (answer : CodeAnswers) (Kinds : Move → Type 0) (old new : FolderView) (ws ws' : List Warning) → old.token ≡ a.token → old.told → Warns a ws ws' old new → Lawfully a.root answer Kinds old new
     → IsLone old.token (moved old new) → IsSound a.root answer (state old) → (Rose old.faults new.faults → ⊥) → WarnsOfOthers ws ws'
 lone_warns a answer Kinds old new ws ws' same told warns lawful lone sound rose =
     let all = lone_owed (IsLawful a.root answer) (IsLawful a.root answer) old.token (λ t s m owed. owed) (state old) (moved old new) lone (lawful.owes sound) in

@@ -18,7 +18,7 @@ use Rattle.jl_store.specs.declared.memory.WarnKind.{WarnKind}
 use Rattle.jl_store.specs.declared.memory.WarnKind.TheVariants.{LoadFault, NotMine, Damaged}
 use Rattle.jl_store.specs.declared.memory.Warning.{Warning}
 use Rattle.jl_store.specs.Asked.{Asked}
-use Rattle.jl_store.specs.Looking.{IsStored, IsReadable, IsJudged, Finds, FindsAsked, Missing, absent, failed, other, damaged, warning, warnings_for, IsMissing, Looks, IsMiss, IsSettled}
+use Rattle.jl_store.specs.Looking.{IsStored, IsReadable, IsJudged, Finds, FindsAsked, Missing, absent, failed, other, damaged, warning, warnings_for, IsMissing, LooksUp, IsMiss, SettlesFound}
 
 -- all was read, where fewer bytes were read than were wanted
 pub read_whole : (m : ℕ) (bytes whole : List ℕ) → bytes ≡ take (m + 1) whole → length bytes ≤ m → bytes ≡ whole
@@ -61,25 +61,25 @@ finds_read path code ps bytes r s moves reads judged = by_case r judged
 
 -- ---- the answer of a look
 
-pub settled_as : (r : Look) (d : Found) (f f' : List ℕ) (key : Key) (ws0 ws ws' : List Warning) → f ≡ f' → ws0 ≡ ws → IsSettled r d f key ws0 ws' → IsSettled r d f' key ws ws'
+pub settled_as : (r : Look) (d : Found) (f f' : List ℕ) (key : Key) (ws0 ws ws' : List Warning) → f ≡ f' → ws0 ≡ ws → SettlesFound r d f key ws0 ws' → SettlesFound r d f' key ws ws'
 settled_as r d f f' key ws0 ws ws' named same settled =
-    subst (λ (v : List Warning). IsSettled r d f' key v ws') same (subst (λ (n : List ℕ). IsSettled r d n key ws0 ws') named settled)
+    subst (λ (v : List Warning). SettlesFound r d f' key v ws') same (subst (λ (n : List ℕ). SettlesFound r d n key ws0 ws') named settled)
 
 module _ (a : Asked) (ws ws' : List Warning) (old new : FolderView) where
   -- a miss that is warned of
-  missed : (why : Missing) (kind : WarnKind) (r : Look) (key : Key) → key ≡ record { 0 = key_of a.args } → warnings_for why a.function_name a.args ≡ warning kind a.function_name a.args ∷ [] → IsMiss r kind a.function_name key ws ws' → IsMissing why a old new → Looks r a ws ws' old new
+  missed : (why : Missing) (kind : WarnKind) (r : Look) (key : Key) → key ≡ record { 0 = key_of a.args } → warnings_for why a.function_name a.args ≡ warning kind a.function_name a.args ∷ [] → IsMiss r kind a.function_name key ws ws' → IsMissing why a old new → LooksUp r a ws ws' old new
   missed why kind r key is warns miss missing =
-      subst (λ (k : Look). Looks k a ws ws' old new) (sym miss.0)
+      subst (λ (k : Look). LooksUp k a ws ws' old new) (sym miss.0)
       (why, miss.1 ∙ ap (λ (k : Key). ws ++ record { kind = kind; name = a.function_name; key = k } ∷ []) is ∙ ap (λ (l : List Warning). ws ++ l) (sym warns), missing)
 
   -- what was found is answered
-  pub looks_found : (r : Look) (d : Found) (key : Key) → key ≡ record { 0 = key_of a.args } → IsSettled r d a.function_name key ws ws' → FindsAsked a d old new → (d ≡ found.Fault → Rose old.faults new.faults) → Looks r a ws ws' old new
-  looks_found r (found.Value v) key is settled finds rose = subst (λ (k : Look). Looks k a ws ws' old new) (sym settled.0) (settled.1, finds)
-  looks_found r found.Absent key is settled finds rose = subst (λ (k : Look). Looks k a ws ws' old new) (sym settled.0) (absent, settled.1 ∙ sym (append-nil ws), finds)
+  pub looks_found : (r : Look) (d : Found) (key : Key) → key ≡ record { 0 = key_of a.args } → SettlesFound r d a.function_name key ws ws' → FindsAsked a d old new → (d ≡ found.Fault → Rose old.faults new.faults) → LooksUp r a ws ws' old new
+  looks_found r (found.Value v) key is settled finds rose = subst (λ (k : Look). LooksUp k a ws ws' old new) (sym settled.0) (settled.1, finds)
+  looks_found r found.Absent key is settled finds rose = subst (λ (k : Look). LooksUp k a ws ws' old new) (sym settled.0) (absent, settled.1 ∙ sym (append-nil ws), finds)
   looks_found r found.NotMine key is settled finds rose = missed other NotMine r key is refl settled finds
   looks_found r found.Damaged key is settled finds rose = missed damaged Damaged r key is refl settled finds
   looks_found r found.Fault key is settled finds rose = missed failed LoadFault r key is refl settled (rose refl)
-  looks_found r found.NoMemory key is settled finds rose = subst (λ (k : Look). Looks k a ws ws' old new) (sym settled.0) settled.1
+  looks_found r found.NoMemory key is settled finds rose = subst (λ (k : Look). LooksUp k a ws ws' old new) (sym settled.0) settled.1
 
 -- ---- warnings are told apart
 
@@ -94,12 +94,12 @@ one_more ws w e = let none : [] ≡ w ∷ [] = append_cancel_left ws [] (w ∷ [
 
 -- a load fault is warned of exactly where the reading failed
 module _ (r : Look) (f : List ℕ) (ps : Members) (key : Key) (is : key ≡ record { 0 = key_of ps }) (ws ws' : List Warning) where
-  pub fault_warned : (d : Found) → IsSettled r d f key ws ws' → d ≡ found.Fault → ws' ≡ ws ++ warning LoadFault f ps ∷ []
+  pub fault_warned : (d : Found) → SettlesFound r d f key ws ws' → d ≡ found.Fault → ws' ≡ ws ++ warning LoadFault f ps ∷ []
   fault_warned d settled e =
-      let at : IsSettled r found.Fault f key ws ws' = subst (λ (k : Found). IsSettled r k f key ws ws') e settled in
+      let at : SettlesFound r found.Fault f key ws ws' = subst (λ (k : Found). SettlesFound r k f key ws ws') e settled in
       at.1 ∙ ap (λ (k : Key). ws ++ record { kind = LoadFault; name = f; key = k } ∷ []) is
 
-  pub warned_fault : (d : Found) → IsSettled r d f key ws ws' → ws' ≡ ws ++ warning LoadFault f ps ∷ [] → d ≡ found.Fault
+  pub warned_fault : (d : Found) → SettlesFound r d f key ws ws' → ws' ≡ ws ++ warning LoadFault f ps ∷ [] → d ≡ found.Fault
   warned_fault (found.Value v) settled e = absurd (one_more ws _ (sym settled.1 ∙ e))
   warned_fault found.Absent settled e = absurd (one_more ws _ (sym settled.1 ∙ e))
   warned_fault found.NotMine settled e = let k : NotMine ≡ LoadFault = kind_same ws _ _ (sym settled.1 ∙ e) in cc

@@ -16,7 +16,7 @@ use Rattle.jl_entry.specs.Entry.{IsEntry, IsEntryOf, IsOther}
 use Rattle.jl_entry.proofs.Entries.{entry_once}
 use Rattle.jl_rely.specs.Steps.{AllSteps}
 use Rattle.jl_rely.proofs.Traces.{IsTrace-left, IsTrace-right, AllSteps-left, AllSteps-right, AllSteps-weaken, carried}
-use Rattle.jl_protocol.specs.Whole.{most_bytes, Answers, IsWhole, IsTruthful}
+use Rattle.jl_protocol.specs.Whole.{most_bytes, CodeAnswers, IsWhole, IsTruthful}
 use Rattle.jl_protocol.specs.Owned.{IsKept}
 use Rattle.jl_protocol.specs.Proper.{IsProper, IsLawful}
 use Rattle.jl_protocol.specs.Tidy.{IsTidy}
@@ -28,7 +28,7 @@ use Rattle.jl_store.specs.declared.found.Look.TheVariants as look
 use Rattle.jl_store.specs.declared.memory.WarnKind.TheVariants.{LoadFault, NotMine, Damaged}
 use Rattle.jl_store.specs.declared.memory.Warning.{Warning}
 use Rattle.jl_store.specs.Asked.{Asked, output_of, output_asked}
-use Rattle.jl_store.specs.Looking.{IsStored, IsReadable, StandsWith, Stands, Missing, absent, failed, other, damaged, warnings_for, IsMissing, Looks, LooksTidy, IsAnswered}
+use Rattle.jl_store.specs.Looking.{IsStored, IsReadable, StandsWith, HasEntryOf, Missing, absent, failed, other, damaged, warnings_for, IsMissing, LooksUp, LooksTidy, IsAnswered}
 use Rattle.jl_store.specs.Trust.{IsTrusted}
 use Rattle.jl_store.specs.Warned.{IsOrderly}
 use Rattle.jl_store.proofs.LookLemmas.{kind_same, one_more}
@@ -108,7 +108,7 @@ module _ (a : Asked) (final : IsFinal a.root (output_of a.module_name a.function
       let opened = missing told in
       let P : List ℕ → Type 0 = λ b. (length b ≤ most_bytes) × IsOther b a.code a.args in
       let whole = opened_whole a.root x path final s moves may tidy all P opened in (
-        inl (opened_then a.root x path final s moves may tidy all P opened (λ u. Stands path a.code a.args u → ⊥)
+        inl (opened_then a.root x path final s moves may tidy all P opened (λ u. HasEntryOf path a.code a.args u → ⊥)
             (λ u has stands. whole.0.1.1 stands.0 (subst (λ b. IsEntryOf b a.code a.args stands.0) (one_value _ _ _ stands.1.1 has) stands.1.2.1))),
         λ e. let k : NotMine ≡ Damaged = kind_same ws _ _ (sym warns ∙ e) in cc,
       )
@@ -118,7 +118,7 @@ module _ (a : Asked) (final : IsFinal a.root (output_of a.module_name a.function
       let entry : IsEntry opened.view.bytes = (whole.1.1.0, whole.1.1.1, whole.1.1.2, whole.1.1.4) in
       absurd (whole.0 (whole.1.0, entry))
 
-  pub looks_tidy : (r : Look) → Looks r a ws ws' old new → IsOrderly a.root old new → LooksTidy r a ws ws' old new
+  pub looks_tidy : (r : Look) → LooksUp r a ws ws' old new → IsOrderly a.root old new → LooksTidy r a ws ws' old new
   looks_tidy (look.Hit v) looks (tidy, all) =
       let opened = looks.1 told in
       let P : List ℕ → Type 0 = λ b. IsStored b a.code a.args (tree_of v) in
@@ -127,7 +127,7 @@ module _ (a : Asked) (final : IsFinal a.root (output_of a.module_name a.function
   looks_tidy look.Miss looks orderly = misses_tidy looks.0 looks.1 looks.2 orderly
   looks_tidy look.NoMemory looks orderly = tt
 
-pub looks_sound : (a : Asked) (final : IsFinal a.root (output_of a.module_name a.function_name a.args) (output_asked a)) (old new : FolderView) (may : IsTrace (state old) (moved old new)) (ws ws' : List Warning) (r : Look) → Looks r a ws ws' old new → (answer : Answers) → IsTrusted a.root answer old new → IsAnswered r answer a.code a.args
+pub looks_sound : (a : Asked) (final : IsFinal a.root (output_of a.module_name a.function_name a.args) (output_asked a)) (old new : FolderView) (may : IsTrace (state old) (moved old new)) (ws ws' : List Warning) (r : Look) → LooksUp r a ws ws' old new → (answer : CodeAnswers) → IsTrusted a.root answer old new → IsAnswered r answer a.code a.args
 unfolding IsTruthful
 looks_sound a final old new may ws ws' (look.Hit v) looks answer (told, sound, all) =
     let s = state old in

@@ -12,7 +12,7 @@ use Rattle.jl_rely.proofs.Since.{moved_then}
 use Rattle.jl_rely.proofs.Moving.{moves_none}
 use Rattle.jl_rely.proofs.Traces.{OwnMoves-append, OwnMoves-weaken}
 use Rattle.jl_store.specs.Kinds.{IsFor}
-use Rattle.jl_store.specs.Keeping.{Entry, KeepsFile, HasPut, OnlyFor, MomentsInOrder, InOrder, last_of, temp_of}
+use Rattle.jl_store.specs.Keeping.{EntryPlace, KeepsFile, HasPut, OnlyFor, MomentsInOrder, InOrder, last_of, temp_of}
 use Rattle.jl_store.specs.Calling.{IsOrdered}
 use Rattle.jl_store.specs.declared.answer.Keep.{Keep}
 use Rattle.jl_store.specs.declared.answer.Keep.TheVariants as keep
@@ -27,7 +27,7 @@ none_own token Kinds = tt
 -- ---- the moments
 
 -- the metadata alone
-pub moments_front : (e : Entry) (token : List ℕ) (steps : Trace) → OnlyFor e token Metadata steps → MomentsInOrder e token steps
+pub moments_front : (e : EntryPlace) (token : List ℕ) (steps : Trace) → OnlyFor e token Metadata steps → MomentsInOrder e token steps
 moments_front e token steps own = record {
   metadata = steps;
   access = [];
@@ -38,7 +38,7 @@ moments_front e token steps own = record {
 }
 
 -- and then the last access
-pub moments_then : (e : Entry) (bytes bytes' : List ℕ) (Ready Ready' : State → Type 0) (r : Keep) (old mid new : FolderView) → KeepsFile e Metadata bytes Ready keep.Kept old mid → KeepsFile e Access bytes' Ready' r mid new → MomentsInOrder e old.token (moved old new)
+pub moments_then : (e : EntryPlace) (bytes bytes' : List ℕ) (Ready Ready' : State → Type 0) (r : Keep) (old mid new : FolderView) → KeepsFile e Metadata bytes Ready keep.Kept old mid → KeepsFile e Access bytes' Ready' r mid new → MomentsInOrder e old.token (moved old new)
 moments_then e bytes bytes' Ready Ready' r old mid new a b = record {
   metadata = moved old mid;
   access = moved mid new;
@@ -50,7 +50,7 @@ moments_then e bytes bytes' Ready Ready' r old mid new a b = record {
 
 -- ---- a whole entry
 
-module _ (Before : Move → Type 0) (e : Entry) where
+module _ (Before : Move → Type 0) (e : EntryPlace) where
   -- the kinds of the first part
   abbrev First : List ℕ → Move → Type 0
   First token m = Before m ⊎ IsFor (last_of e Output) (temp_of e token Output) m
@@ -101,7 +101,7 @@ module _ (Before : Move → Type 0) (e : Entry) where
       }
 
 -- beside more moves
-pub order_as : (Before Before' : Move → Type 0) (e : Entry) (token : List ℕ) (steps : Trace) → ((m : Move) → Before m → Before' m) → InOrder Before e token steps → InOrder Before' e token steps
+pub order_as : (Before Before' : Move → Type 0) (e : EntryPlace) (token : List ℕ) (steps : Trace) → ((m : Move) → Before m → Before' m) → InOrder Before e token steps → InOrder Before' e token steps
 order_as Before Before' e token steps f o = record {
   output = o.output;
   moments = o.moments;
@@ -114,7 +114,7 @@ order_as Before Before' e token steps f o = record {
 
 -- ---- by the answer
 
-module _ (Before : Move → Type 0) (e : Entry) (token : List ℕ) (steps : Trace) where
+module _ (Before : Move → Type 0) (e : EntryPlace) (token : List ℕ) (steps : Trace) where
   pub found_ordered : (r : Cached) (v : Value) → (r ≡ Hit v) ⊎ (r ≡ NoMemory) → IsOrdered r Before e token steps
   found_ordered r v (inl is) = subst (λ (k : Cached). IsOrdered k Before e token steps) (sym is) tt
   found_ordered r v (inr is) = subst (λ (k : Cached). IsOrdered k Before e token steps) (sym is) tt
@@ -126,7 +126,7 @@ module _ (Before : Move → Type 0) (e : Entry) (token : List ℕ) (steps : Trac
   all_ordered NoMemory order = tt
 
 -- after moves that come before the output
-pub ordered_later : (Before Before' Kinds : Move → Type 0) (e : Entry) → ((m : Move) → Kinds m → Before' m) → ((m : Move) → Before m → Before' m) → (old mid new : FolderView) → Moves Kinds old mid → GoesOn mid new
+pub ordered_later : (Before Before' Kinds : Move → Type 0) (e : EntryPlace) → ((m : Move) → Kinds m → Before' m) → ((m : Move) → Before m → Before' m) → (old mid new : FolderView) → Moves Kinds old mid → GoesOn mid new
     → (r : Cached) → IsOrdered r Before e mid.token (moved mid new) → IsOrdered r Before' e old.token (moved old new)
 ordered_later Before Before' Kinds e f h old mid new a went (Hit v) order = tt
 ordered_later Before Before' Kinds e f h old mid new a went (Computed v) order = order_later Before' e Kinds f old mid new a went (order_as Before Before' e mid.token (moved mid new) h order)

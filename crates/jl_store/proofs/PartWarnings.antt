@@ -10,7 +10,7 @@ use Rattle.jl_entry.specs.declared.names.EntryFile.TheVariants.{Access}
 use Rattle.jl_rely.specs.Touches.{TouchedByOther}
 use Rattle.jl_rely.proofs.Touched.{touched_as}
 use Rattle.jl_store.specs.Asked.{Asked}
-use Rattle.jl_store.specs.Looking.{Missing, absent, failed, other, damaged, warnings_for, IsMissing, Looks, LooksTidy}
+use Rattle.jl_store.specs.Looking.{Missing, absent, failed, other, damaged, warnings_for, IsMissing, LooksUp, LooksTidy}
 use Rattle.jl_store.specs.Next.{entry_asked}
 use Rattle.jl_store.specs.Warned.{IsOrderly, UsesCall}
 use Rattle.jl_store.specs.Parts.{AreWarned, IsCausedFrom, WarnsFrom, keep_warns, check_warns}
@@ -81,7 +81,7 @@ module _ (a : Asked) (Ready : State → Type 0) (old new : FolderView) where
     missing_warned other e missing tidy = warned_one Caused a.function_name (key_of a.args) _ refl refl missing
     missing_warned damaged e missing tidy = warned_one Caused a.function_name (key_of a.args) _ refl refl (missing, λ t orderly. (tidy t orderly).1 e)
 
-    pub look_warns : (r : Look) → Looks r a ws ws' old new → (old.told → IsOrderly a.root old new → LooksTidy r a ws ws' old new) → WarnsFrom Ready a ws ws' old new
+    pub look_warns : (r : Look) → LooksUp r a ws ws' old new → (old.told → IsOrderly a.root old new → LooksTidy r a ws ws' old new) → WarnsFrom Ready a ws ws' old new
     look_warns (look.Hit v) looks tidy = warns_none a Ready ws ws' old new looks.0
     look_warns look.Miss looks tidy = (warnings_for looks.0 a.function_name a.args, looks.1, missing_warned looks.0 looks.1 looks.2 tidy)
     look_warns look.NoMemory looks tidy = warns_none a Ready ws ws' old new looks

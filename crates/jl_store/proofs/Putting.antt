@@ -25,7 +25,7 @@ use Rattle.jl_store.specs.Kinds.{IsFor, PutsThis}
 use Rattle.jl_store.specs.Checking.{IsChecking, function_path, code_path, code_temp}
 use Rattle.jl_store.specs.Keeping.{KeepsFile, PutsEntry, last_of, temp_of, texts}
 use Rattle.jl_store.specs.Next.{entry_asked, AreTimed}
-use Rattle.jl_store.specs.Calling.{IsAnswering, IsCalling, IsKept, PutsCall, Puts, PutsAnswer, PutsFiles}
+use Rattle.jl_store.specs.Calling.{IsAnswering, IsCalling, IsValueKept, PutsCall, PutsOneValue, PutsAnswer, PutsFiles}
 use Rattle.jl_store.specs.declared.answer.Keep.{Keep}
 use Rattle.jl_store.specs.declared.cached.Cached.{Cached}
 use Rattle.jl_store.specs.declared.cached.Cached.TheVariants.{Hit, Computed, NoMemory}
@@ -33,13 +33,13 @@ use Rattle.jl_store.proofs.KeepFacts.{renames_file}
 use Rattle.jl_store.proofs.CallMoves.{found_kinds, checking_kinds, answering_kinds}
 
 -- what is kept where nothing was computed
-found_kept : (r : Cached) (v : Value) → (r ≡ Hit v) ⊎ (r ≡ NoMemory) → IsKept r (tree_of v)
-found_kept r v (inl is) = subst (λ (k : Cached). IsKept k (tree_of v)) (sym is) tt
-found_kept r v (inr is) = subst (λ (k : Cached). IsKept k (tree_of v)) (sym is) tt
+found_kept : (r : Cached) (v : Value) → (r ≡ Hit v) ⊎ (r ≡ NoMemory) → IsValueKept r (tree_of v)
+found_kept r v (inl is) = subst (λ (k : Cached). IsValueKept k (tree_of v)) (sym is) tt
+found_kept r v (inr is) = subst (λ (k : Cached). IsValueKept k (tree_of v)) (sym is) tt
 
-computed_kept : (r : Cached) (v : Value) → (r ≡ Computed v) ⊎ (r ≡ NoMemory) → IsKept r (tree_of v)
-computed_kept r v (inl is) = subst (λ (k : Cached). IsKept k (tree_of v)) (sym is) refl
-computed_kept r v (inr is) = subst (λ (k : Cached). IsKept k (tree_of v)) (sym is) tt
+computed_kept : (r : Cached) (v : Value) → (r ≡ Computed v) ⊎ (r ≡ NoMemory) → IsValueKept r (tree_of v)
+computed_kept r v (inl is) = subst (λ (k : Cached). IsValueKept k (tree_of v)) (sym is) refl
+computed_kept r v (inr is) = subst (λ (k : Cached). IsValueKept k (tree_of v)) (sym is) tt
 
 found_timed : (r : Cached) (v : Value) (moment : ℕ) (host : HostView) → (r ≡ Hit v) ⊎ (r ≡ NoMemory) → moment ≡ moment_of host.moments → AreTimed r 0 moment host
 found_timed r v moment host (inl is) timed = subst (λ (k : Cached). AreTimed k 0 moment host) (sym is) timed
@@ -53,7 +53,7 @@ module _ (r : Cached) (a : Asked) (host : HostView) where
   -- ---- nothing
 
   -- where nothing is done
-  pub puts_none : (Owed : (EntryFile → List ℕ) → StepFact) (Kinds : Move → Type 0) (v : FolderView) → IsKept r (args_tree a.args) → (host.told → AreTimed r 0 0 host) → Puts Owed Kinds r a host v v
+  pub puts_none : (Owed : (EntryFile → List ℕ) → StepFact) (Kinds : Move → Type 0) (v : FolderView) → IsValueKept r (args_tree a.args) → (host.told → AreTimed r 0 0 host) → PutsOneValue Owed Kinds r a host v v
   puts_none Owed Kinds v kept timed = record {
     value = args_tree a.args;
     duration = 0;
@@ -64,7 +64,7 @@ module _ (r : Cached) (a : Asked) (host : HostView) where
   }
 
   -- or others moved, and nobody else
-  pub puts_waits : (Owed : (EntryFile → List ℕ) → StepFact) (Kinds : Move → Type 0) (old new : FolderView) → new.token ≡ old.token → Waits old new → IsKept r (args_tree a.args) → (host.told → AreTimed r 0 0 host) → Puts Owed Kinds r a host old new
+  pub puts_waits : (Owed : (EntryFile → List ℕ) → StepFact) (Kinds : Move → Type 0) (old new : FolderView) → new.token ≡ old.token → Waits old new → IsValueKept r (args_tree a.args) → (host.told → AreTimed r 0 0 host) → PutsOneValue Owed Kinds r a host old new
   puts_waits Owed Kinds old new same waits kept timed = record {
     value = args_tree a.args;
     duration = 0;
@@ -142,7 +142,7 @@ module _ (r : Cached) (a : Asked) (host : HostView) where
       (λ t s m given. given) (λ t s m owed. (owed.0, inl owed.1)) (checking_kinds r e a.token) (λ s tidy. tidy) (λ s post. tt) call)
 
   -- alone, where the call ended
-  pub checked_puts : (old new : FolderView) → old.token ≡ a.token → ChecksCode old new → IsKept r (args_tree a.args) → (host.told → AreTimed r 0 0 host) → PutsFiles r a host old new
+  pub checked_puts : (old new : FolderView) → old.token ≡ a.token → ChecksCode old new → IsValueKept r (args_tree a.args) → (host.told → AreTimed r 0 0 host) → PutsFiles r a host old new
   checked_puts old new mine call kept timed = record {
     value = args_tree a.args;
     duration = 0;

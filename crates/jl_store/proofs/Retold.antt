@@ -9,9 +9,9 @@ use Rattle.jl_entry.specs.declared.names.EntryFile.{EntryFile}
 use Rattle.jl_rely.specs.Steps.{StepFact}
 use Rattle.jl_rely.specs.Claims.{GoesOn, Called}
 use Rattle.jl_store.specs.Asked.{Asked}
-use Rattle.jl_store.specs.Checking.{Writes, Replaces, Stored, Checks}
-use Rattle.jl_store.specs.Keeping.{Entry, Keeps, KeepsFile}
-use Rattle.jl_store.specs.Looking.{Missing, absent, failed, other, damaged, IsMissing, Looks, LooksTidy}
+use Rattle.jl_store.specs.Checking.{WritesFirstCode, Replaces, Stored, Checks}
+use Rattle.jl_store.specs.Keeping.{EntryPlace, KeepsEntry, KeepsFile}
+use Rattle.jl_store.specs.Looking.{Missing, absent, failed, other, damaged, IsMissing, LooksUp, LooksTidy}
 use Rattle.jl_store.specs.declared.answer.Keep.{Keep}
 use Rattle.jl_store.specs.declared.checks.CodeCheck.{CodeCheck}
 use Rattle.jl_store.specs.declared.checks.CodeCheck.TheVariants as check
@@ -43,7 +43,7 @@ module _ (t t' : Type 0) (old new : FolderView) where
 
   -- ---- the code
 
-  writes_retold : (folder last temp : PathView) → Writes folder last temp old new → Writes folder last temp (retold t old) (retold t' new)
+  writes_retold : (folder last temp : PathView) → WritesFirstCode folder last temp old new → WritesFirstCode folder last temp (retold t old) (retold t' new)
   writes_retold folder last temp w = record { absent = w.absent; own = w.own }
 
   replaces_retold : (folder last temp : PathView) (code : List ℕ) → Replaces folder last temp code old new → Replaces folder last temp code (retold t old) (retold t' new)
@@ -75,7 +75,7 @@ module _ (t t' : Type 0) (old new : FolderView) where
 
   -- what a look tells
   pub looks_retold : (r : Look) (a : Asked) (ws ws' : List Warning) → (t → old.told)
-      → Looks r a ws ws' old new → Looks r a ws ws' (retold t old) (retold t' new)
+      → LooksUp r a ws ws' old new → LooksUp r a ws ws' (retold t old) (retold t' new)
   looks_retold (look.Hit v) a ws ws' f looks = (looks.0, λ told. looks.1 (f told))
   looks_retold look.Miss a ws ws' f looks = (looks.0, looks.1, missing_retold looks.0 a f looks.2)
   looks_retold look.NoMemory a ws ws' f looks = looks
@@ -88,11 +88,11 @@ module _ (t t' : Type 0) (old new : FolderView) where
   -- ---- the answer
 
   -- one file that was kept
-  pub file_retold : (e : Entry) (file : EntryFile) (bytes : List ℕ) (Ready : State → Type 0) (k : Keep)
+  pub file_retold : (e : EntryPlace) (file : EntryFile) (bytes : List ℕ) (Ready : State → Type 0) (k : Keep)
       → KeepsFile e file bytes Ready k old new → KeepsFile e file bytes Ready k (retold t old) (retold t' new)
   file_retold e file bytes Ready k keeps = record { call = called_retold _ _ _ _ _ keeps.call; once = keeps.once; kept = keeps.kept; skipped = keeps.skipped }
 
   -- an entry that was kept
-  pub entry_retold : (e : Entry) (text : EntryFile → List ℕ) (Ready : State → Type 0) (Done : Trace → Type 0) (k : Keep)
-      → Keeps e text Ready Done k old new → Keeps e text Ready Done k (retold t old) (retold t' new)
+  pub entry_retold : (e : EntryPlace) (text : EntryFile → List ℕ) (Ready : State → Type 0) (Done : Trace → Type 0) (k : Keep)
+      → KeepsEntry e text Ready Done k old new → KeepsEntry e text Ready Done k (retold t old) (retold t' new)
   entry_retold e text Ready Done k keeps = record { call = called_retold _ _ _ _ _ keeps.call; kept = keeps.kept; skipped = keeps.skipped }

@@ -6,7 +6,7 @@ use Rattle.jl_value.specs.Tree.{Tree}
 use Rattle.jl_value.specs.Form.{tree_of}
 use Rattle.jl_value.specs.Library.{Answer}
 use Rattle.jl_value.specs.declared.value.Value.{Value}
-use Rattle.jl_protocol.specs.Whole.{Answers}
+use Rattle.jl_protocol.specs.Whole.{CodeAnswers}
 use Rattle.jl_store.specs.Asked.{Asked}
 use Rattle.jl_store.specs.Cached.{IsMissed}
 use Rattle.jl_store.specs.Stretch.{Point, Between, point, between, reached}
@@ -80,7 +80,7 @@ module _ (a : Asked) (t : Type 0) (p q : Point) (f : t → p.folder.told) where
   found_retold : HasFound a p q → HasFound a (told_as t p) q
   found_retold h = record { moment = h.moment; touched = touched_retold h.moment h.touched; calls = h.calls; timed = h.timed; clock = h.clock }
 
-  pub answered_retold : (answer : Answers) (r : Cached) → HasAnswered answer a r p q → HasAnswered answer a r (told_as t p) q
+  pub answered_retold : (answer : CodeAnswers) (r : Cached) → HasAnswered answer a r p q → HasAnswered answer a r (told_as t p) q
   answered_retold answer (Hit v) h = found_retold h
   answered_retold answer (Computed v) h = record {
     answered = h.answered;
@@ -105,14 +105,14 @@ module _ (a : Asked) (t : Type 0) (p q : Point) (f : t → p.folder.told) where
 -- ---- the answer
 
 -- a value that was computed
-pub computed_has : (answer : Answers) (a : Asked) (p q : Point) (r : Cached) (v : Value) → (r ≡ Computed v) ⊎ (r ≡ NoMemory)
+pub computed_has : (answer : CodeAnswers) (a : Asked) (p q : Point) (r : Cached) (v : Value) → (r ≡ Computed v) ⊎ (r ≡ NoMemory)
     → (r ≡ Computed v → HasComputed answer a v p q) → HasAnswered answer a r p q
 computed_has answer a p q r v (inl is) has = subst (λ (k : Cached). HasAnswered answer a k p q) (sym is) (has is)
 computed_has answer a p q r v (inr is) has = subst (λ (k : Cached). HasAnswered answer a k p q) (sym is) tt
 
 -- ---- the look and the answer
 
-module _ (answer : Answers) (a : Asked) (old mid new : FolderView) (host host' : HostView) (calls calls' : ℕ) (ws ws1 ws2 : List Warning) (on : old.told → mid.told) where
+module _ (answer : CodeAnswers) (a : Asked) (old mid new : FolderView) (host host' : HostView) (calls calls' : ℕ) (ws ws1 ws2 : List Warning) (on : old.told → mid.told) where
   abbrev before : Point
   before = point old host calls ws
 

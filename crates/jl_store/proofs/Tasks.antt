@@ -9,7 +9,7 @@ use Rattle.jl_rely.specs.Claims.{GoesOn}
 use Rattle.jl_rely.proofs.Since.{goes_none, goes_then}
 use Rattle.jl_rely.proofs.Moving.{moves_waits}
 use Rattle.jl_rely.proofs.Composed.{goes_waits}
-use Rattle.jl_protocol.specs.Whole.{Answers}
+use Rattle.jl_protocol.specs.Whole.{CodeAnswers}
 use Rattle.jl_store.specs.Asked.{Asked}
 use Rattle.jl_store.specs.Checking.{code_path}
 use Rattle.jl_store.specs.Keeping.{lasts_of, last_of}
@@ -28,7 +28,7 @@ use Rattle.jl_store.proofs.Retold.{retold, answers_retold, called_retold, file_r
 abbrev host_retold : (told : Type 0) → HostView → HostView
 host_retold t h = record { told = t; token = h.token; processors = h.processors; moments = h.moments }
 
-module _ (answer : Answers) (a : Asked) where
+module _ (answer : CodeAnswers) (a : Asked) where
   -- the answer, with another reason to tell afterwards
   answered_told : (r : Cached) (p q : Point) (t u : Type 0) → (p.folder.told → t) → HasAnswered answer a r p q
       → HasAnswered answer a r p (point (retold t q.folder) (host_retold u q.host) q.calls q.warnings)
@@ -117,7 +117,7 @@ goes_still old new same stays = record {
   lawful = subst (λ (h : History). IsTrace (now old.history) (since old.history h)) (sym stays) (goes_none old).lawful;
 }
 
-module _ (answer : Answers) (a : Asked) (p q : Point) where
+module _ (answer : CodeAnswers) (a : Asked) (p q : Point) where
   -- after the check and the look
   later : (r : Cached) (d : PartsDid answer a r p q) (lasts : List PathView) → GoesOn (reached p d.looked).folder q.folder
       → PutsInTurn lasts d.looked.token (moved (reached p d.looked).folder q.folder)

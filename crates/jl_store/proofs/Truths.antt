@@ -17,10 +17,10 @@ use Rattle.jl_entry.specs.declared.names.EntryFile.{EntryFile}
 use Rattle.jl_entry.specs.declared.names.EntryFile.TheVariants.{Output, Metadata, Access}
 use Rattle.jl_entry.proofs.Entries.{entry_proper, entry_nesting}
 use Rattle.jl_entry.proofs.NameFacts.{final_one_way}
-use Rattle.jl_protocol.specs.Whole.{Answers, IsTruthful}
+use Rattle.jl_protocol.specs.Whole.{CodeAnswers, IsTruthful}
 use Rattle.jl_protocol.specs.Proper.{IsProper, RenamesTrue}
 use Rattle.jl_store.specs.Kinds.{RenamesThis, PutsThis}
-use Rattle.jl_store.specs.Keeping.{Entry, RenamesEntry, PutsEntry, file_of, last_of, texts}
+use Rattle.jl_store.specs.Keeping.{EntryPlace, RenamesEntry, PutsEntry, file_of, last_of, texts}
 use Rattle.jl_store.proofs.EntryNames.{IsNamed, final_of}
 
 -- the text of an entry is its entry
@@ -48,11 +48,11 @@ is_empty : PathView → Bool
 is_empty [] = true
 is_empty (x ∷ xs) = false
 
-parts_same : (e : Entry) (file : EntryFile) (y : Final) → IsFinal e.root y (last_of e file) → final_parts (file_of e file) ≡ final_parts y
+parts_same : (e : EntryPlace) (file : EntryFile) (y : Final) → IsFinal e.root y (last_of e file) → final_parts (file_of e file) ≡ final_parts y
 parts_same e file y at = append_cancel_left e.root (final_parts (file_of e file)) (final_parts y) at.is
 
 -- a final name of an entry is that of its file alone
-pub only_final : (e : Entry) (file : EntryFile) (y : Final) → IsFinal e.root y (last_of e file) → file_of e file ≡ y
+pub only_final : (e : EntryPlace) (file : EntryFile) (y : Final) → IsFinal e.root y (last_of e file) → file_of e file ≡ y
 unfolding is_empty rest first
 only_final e file (code_of m f) at =
     absurd (true≢false (sym (ap (λ l. is_empty (rest (rest (rest l)))) (parts_same e file (code_of m f) at))))
@@ -68,7 +68,7 @@ only_final e file (entry_of w m f k) at =
 -- ---- true renames
 
 -- renames of one file's true bytes
-pub this_true : (root : PathView) (answer : Answers) (x : Final) (last : PathView) (bytes : List ℕ) → ((y : Final) → IsFinal root y last → x ≡ y) → IsTruthful answer x bytes → (token : List ℕ) (s : State) (m : Move) → PutsThis root last bytes token s m → IsProper root token s m × RenamesTrue root answer s m
+pub this_true : (root : PathView) (answer : CodeAnswers) (x : Final) (last : PathView) (bytes : List ℕ) → ((y : Final) → IsFinal root y last → x ≡ y) → IsTruthful answer x bytes → (token : List ℕ) (s : State) (m : Move) → PutsThis root last bytes token s m → IsProper root token s m × RenamesTrue root answer s m
 unfolding RenamesThis RenamesTrue
 this_true root answer x last bytes final holds token s (MakeDir p) puts = (puts.0, tt)
 this_true root answer x last bytes final holds token s (Create p n) puts = (puts.0, tt)
@@ -83,14 +83,14 @@ this_true root answer x last bytes final holds token s (Remove p) puts = (puts.0
 this_true root answer x last bytes final holds token s (RemoveDir p) puts = (puts.0, tt)
 
 -- the texts of an entry with the code's answer are true
-texts_true : (e : Entry) (answer : Answers) (code : List ℕ) (ps : Members) (t : Tree) (duration moment : ℕ) → IsEntryOf (entry_text code ps t) code ps t → answer code ps ≡ value t → (file : EntryFile) → IsTruthful answer (file_of e file) (texts code ps t duration moment file)
+texts_true : (e : EntryPlace) (answer : CodeAnswers) (code : List ℕ) (ps : Members) (t : Tree) (duration moment : ℕ) → IsEntryOf (entry_text code ps t) code ps t → answer code ps ≡ value t → (file : EntryFile) → IsTruthful answer (file_of e file) (texts code ps t duration moment file)
 unfolding IsTruthful
 texts_true e answer code ps t duration moment entry yes' Output = (code, ps, t, yes', entry)
 texts_true e answer code ps t duration moment entry yes' Metadata = tt
 texts_true e answer code ps t duration moment entry yes' Access = tt
 
 -- renames of such an entry's texts
-pub entry_true : (e : Entry) (answer : Answers) (code : List ℕ) (ps : Members) (t : Tree) (duration moment : ℕ) → IsEntryOf (entry_text code ps t) code ps t → answer code ps ≡ value t → (token : List ℕ) (s : State) (m : Move) → PutsEntry e (texts code ps t duration moment) token s m → IsProper e.root token s m × RenamesTrue e.root answer s m
+pub entry_true : (e : EntryPlace) (answer : CodeAnswers) (code : List ℕ) (ps : Members) (t : Tree) (duration moment : ℕ) → IsEntryOf (entry_text code ps t) code ps t → answer code ps ≡ value t → (token : List ℕ) (s : State) (m : Move) → PutsEntry e (texts code ps t duration moment) token s m → IsProper e.root token s m × RenamesTrue e.root answer s m
 unfolding RenamesEntry RenamesTrue
 entry_true e answer code ps t duration moment entry yes' token s (MakeDir p) puts = (puts.0, tt)
 entry_true e answer code ps t duration moment entry yes' token s (Create p n) puts = (puts.0, tt)
@@ -107,6 +107,6 @@ entry_true e answer code ps t duration moment entry yes' token s (Remove p) puts
 entry_true e answer code ps t duration moment entry yes' token s (RemoveDir p) puts = (puts.0, tt)
 
 -- a last access is true whatever it says
-pub moment_true : (e : Entry) (answer : Answers) (bytes : List ℕ) → IsTruthful answer (file_of e Access) bytes
+pub moment_true : (e : EntryPlace) (answer : CodeAnswers) (bytes : List ℕ) → IsTruthful answer (file_of e Access) bytes
 unfolding IsTruthful
 moment_true e answer bytes = tt

@@ -40,6 +40,6 @@ LeavesCode check.StoreFault files bytes before after = ⊤
 LeavesCode check.NoMemory files bytes before after = ⊤
 
 -- the same in a tidy state of the files of a function, where no other moved
-abbrev pub LeavesAlone : CodeCheck → CodeFiles → List ℕ → FolderView → FolderView → Type 0
-LeavesAlone result files bytes old new =
+abbrev pub LeavesCodeAlone : CodeCheck → CodeFiles → List ℕ → FolderView → FolderView → Type 0
+LeavesCodeAlone result files bytes old new =
     (root : PathView) (m f : List ℕ) → IsTrue (is_name m) → IsTrue (is_name f) → AreFiles root m f old.token files → IsTidy root (state old) → LeavesCode result files bytes (state old) (state new)

@@ -75,14 +75,14 @@ check_of published.Fault done = check.StoreFault
 check_of published.NoMemory done = check.NoMemory
 
 -- it was published
-abbrev pub IsDone : CodeCheck → Type 0
-IsDone check.Same = ⊥
-IsDone check.Written = ⊤
-IsDone check.Cleared = ⊤
-IsDone check.Skipped = ⊥
-IsDone check.LoadFault = ⊥
-IsDone check.StoreFault = ⊥
-IsDone check.NoMemory = ⊥
+abbrev pub IsCodePublished : CodeCheck → Type 0
+IsCodePublished check.Same = ⊥
+IsCodePublished check.Written = ⊤
+IsCodePublished check.Cleared = ⊤
+IsCodePublished check.Skipped = ⊥
+IsCodePublished check.LoadFault = ⊥
+IsCodePublished check.StoreFault = ⊥
+IsCodePublished check.NoMemory = ⊥
 
 -- it was absent or another's, so that there was something to store
 abbrev pub IsUnfitHeld : Held → Type 0
@@ -109,7 +109,7 @@ pub record Stores (files : CodeFiles) (bytes : List ℕ) (Kinds : Move → Type 
   pub goes : old.told → GoesOn old new
   pub called : old.told → (root : PathView) (x : Final) → IsFunctionFolder root files.folder → IsTemp root x old.token files.temp → IsFinal root x files.last → IsWhole x bytes →
       Called (IsProper root) (PutsThis root files.last bytes) Kinds (IsTidy root) Anywhere old new
-  pub ends : old.told → IsDone result → EndsIn (old.token, Rename files.temp files.last) (moved old new)
+  pub ends : old.told → IsCodePublished result → EndsIn (old.token, Rename files.temp files.last) (moved old new)
   pub once : old.told → (root : PathView) (x : Final) → IsTemp root x old.token files.temp → IsFinal root x files.last → IsWhole x bytes →
       PutsInTurn (files.last ∷ []) old.token (moved old new)
 
@@ -150,7 +150,7 @@ abbrev pub WasOfCode : PathView → List ℕ → FolderView → FolderView → T
 WasOfCode last code old new = OpenedHas last (IsOfCode code) (state old) (moved old new)
 
 -- the file was absent, and what was done makes the function's folder or publishes the code
-pub record Writes (folder last temp : PathView) (old new : FolderView) : Type 0 where
+pub record WritesFirstCode (folder last temp : PathView) (old new : FolderView) : Type 0 where
   pub absent : AtSome (state old) (moved old new) (λ s. is_file s last ≡ false)
   pub own : OwnMoves old.token (IsWriting folder last temp) (moved old new)
 
@@ -161,12 +161,12 @@ pub record Replaces (folder last temp : PathView) (code : List ℕ) (old new : F
 
 -- one or the other
 abbrev pub Stored : (folder last temp : PathView) → List ℕ → FolderView → FolderView → Type 0
-Stored folder last temp code old new = Writes folder last temp old new ⊎ Replaces folder last temp code old new
+Stored folder last temp code old new = WritesFirstCode folder last temp old new ⊎ Replaces folder last temp code old new
 
 -- what the answer tells: of the file at its opening, and of the own moves
 abbrev pub Checks : CodeCheck → (folder last temp : PathView) → List ℕ → FolderView → FolderView → Type 0
 Checks check.Same folder last temp code old new = WasOfCode last code old new × OwnMoves old.token Silent (moved old new)
-Checks check.Written folder last temp code old new = Writes folder last temp old new × EndsIn (old.token, Rename temp last) (moved old new)
+Checks check.Written folder last temp code old new = WritesFirstCode folder last temp old new × EndsIn (old.token, Rename temp last) (moved old new)
 Checks check.Cleared folder last temp code old new = Replaces folder last temp code old new × EndsIn (old.token, Rename temp last) (moved old new)
 Checks check.Skipped folder last temp code old new = Stored folder last temp code old new
 Checks check.LoadFault folder last temp code old new = OwnMoves old.token Silent (moved old new)

@@ -34,7 +34,7 @@ use Rattle.jl_store.specs.declared.answer.Keep.{Keep}
 use Rattle.jl_store.specs.declared.answer.Keep.TheVariants as keep
 
 -- an entry: the root of the cache, the module, the function, and the key of the arguments
-pub record Entry : Type 0 where
+pub record EntryPlace : Type 0 where
   pub root : PathView
   pub module_name : List ℕ
   pub function_name : List ℕ
@@ -42,19 +42,19 @@ pub record Entry : Type 0 where
 
 -- ---- where it stands
 
-abbrev pub function_path : Entry → PathView
+abbrev pub function_path : EntryPlace → PathView
 function_path e = below e.root (e.module_name ∷ e.function_name ∷ [])
 
-abbrev pub entry_path : Entry → PathView
+abbrev pub entry_path : EntryPlace → PathView
 entry_path e = below e.root (e.module_name ∷ e.function_name ∷ e.key ∷ [])
 
-abbrev pub file_of : Entry → EntryFile → Final
+abbrev pub file_of : EntryPlace → EntryFile → Final
 file_of e file = entry_of file e.module_name e.function_name e.key
 
-abbrev pub last_of : Entry → EntryFile → PathView
+abbrev pub last_of : EntryPlace → EntryFile → PathView
 last_of e file = below e.root (final_parts (file_of e file))
 
-abbrev pub temp_of : Entry → List ℕ → EntryFile → PathView
+abbrev pub temp_of : EntryPlace → List ℕ → EntryFile → PathView
 temp_of e token file = below e.root (temp_parts (file_of e file) token)
 
 -- ---- what stands in it
@@ -76,7 +76,7 @@ pub record IsKeepable (code : List ℕ) (ps : Members) (t : Tree) : Type 0 where
 -- ---- the moves
 
 -- makes the entry's folder, makes and removes the temporary names of its files, appends pieces, and renames these to the final names
-unfoldable pub IsKeeping : Entry → List ℕ → Move → Type 0
+unfoldable pub IsKeeping : EntryPlace → List ℕ → Move → Type 0
 IsKeeping e token (MakeDir p) = p ≡ entry_path e
 IsKeeping e token (Create p n) = (file : EntryFile) × (p ≡ temp_of e token file)
 IsKeeping e token (Append n bytes) = IsPiece bytes
@@ -85,7 +85,7 @@ IsKeeping e token (Remove p) = (file : EntryFile) × (p ≡ temp_of e token file
 IsKeeping e token (RemoveDir p) = ⊥
 
 -- a rename gives the final name of a file of the entry to its text
-unfoldable pub RenamesEntry : Entry → (EntryFile → List ℕ) → State → Move → Type 0
+unfoldable pub RenamesEntry : EntryPlace → (EntryFile → List ℕ) → State → Move → Type 0
 RenamesEntry e text s (MakeDir p) = ⊤
 RenamesEntry e text s (Create p n) = ⊤
 RenamesEntry e text s (Append n bytes) = ⊤
@@ -94,11 +94,11 @@ RenamesEntry e text s (Remove p) = ⊤
 RenamesEntry e text s (RemoveDir p) = ⊤
 
 -- proper, and what it renames are these texts, to their final names
-abbrev pub PutsEntry : Entry → (EntryFile → List ℕ) → StepFact
+abbrev pub PutsEntry : EntryPlace → (EntryFile → List ℕ) → StepFact
 PutsEntry e text token s m = IsProper e.root token s m × RenamesEntry e text s m
 
 -- the names that keeping uses: the final and temporary names of the entry, its folder and that of the function
-abbrev pub UsesEntry : Entry → List ℕ → PathView → Type 0
+abbrev pub UsesEntry : EntryPlace → List ℕ → PathView → Type 0
 UsesEntry e token p = ((file : EntryFile) × ((p ≡ last_of e file) ⊎ (p ≡ temp_of e token file))) ⊎ (p ≡ entry_path e) ⊎ (p ≡ function_path e)
 
 -- one of these steps is this one
@@ -106,32 +106,32 @@ abbrev pub Includes : Event → Trace → Type 0
 Includes step steps = (before rest : Trace) × (steps ≡ before ++ step ∷ rest)
 
 -- this file of the entry was renamed to its final name
-abbrev pub HasPut : Entry → List ℕ → EntryFile → Trace → Type 0
+abbrev pub HasPut : EntryPlace → List ℕ → EntryFile → Trace → Type 0
 HasPut e token file steps = Includes (token, Rename (temp_of e token file) (last_of e file)) steps
 
 -- all three were
-abbrev pub HasPutAll : Entry → List ℕ → Trace → Type 0
+abbrev pub HasPutAll : EntryPlace → List ℕ → Trace → Type 0
 HasPutAll e token steps = HasPut e token Output steps × HasPut e token Metadata steps × HasPut e token Access steps
 
 -- ---- in order
 
 -- the final names of the moments, and those of the entry, in the order in which they are put in place
-abbrev pub moments_of : Entry → List PathView
+abbrev pub moments_of : EntryPlace → List PathView
 moments_of e = last_of e Metadata ∷ last_of e Access ∷ []
 
-abbrev pub lasts_of : Entry → List PathView
+abbrev pub lasts_of : EntryPlace → List PathView
 lasts_of e = last_of e Output ∷ moments_of e
 
 -- makes the entry's folder
-abbrev pub IsMakingEntry : Entry → Move → Type 0
+abbrev pub IsMakingEntry : EntryPlace → Move → Type 0
 IsMakingEntry e m = m ≡ MakeDir (entry_path e)
 
 -- the own steps are those of publishing this file
-abbrev pub OnlyFor : Entry → List ℕ → EntryFile → Trace → Type 0
+abbrev pub OnlyFor : EntryPlace → List ℕ → EntryFile → Trace → Type 0
 OnlyFor e token file steps = OwnMoves token (IsFor (last_of e file) (temp_of e token file)) steps
 
 -- the metadata is published, and then the last access, of which there is no step before the metadata was put in place
-pub record MomentsInOrder (e : Entry) (token : List ℕ) (steps : Trace) : Type 0 where
+pub record MomentsInOrder (e : EntryPlace) (token : List ℕ) (steps : Trace) : Type 0 where
   pub metadata : Trace
   pub access : Trace
   pub parts : steps ≡ metadata ++ access
@@ -140,7 +140,7 @@ pub record MomentsInOrder (e : Entry) (token : List ℕ) (steps : Trace) : Type 
   pub access_after : (access ≡ []) ⊎ HasPut e token Metadata metadata
 
 -- first the output, besides other own steps of these kinds, and then the moments, of which there is no step before the output was put in place
-pub record InOrder (Before : Move → Type 0) (e : Entry) (token : List ℕ) (steps : Trace) : Type 0 where
+pub record InOrder (Before : Move → Type 0) (e : EntryPlace) (token : List ℕ) (steps : Trace) : Type 0 where
   pub output : Trace
   pub moments : Trace
   pub parts : steps ≡ output ++ moments
@@ -153,50 +153,50 @@ pub record InOrder (Before : Move → Type 0) (e : Entry) (token : List ℕ) (st
 -- Each own step is proper wherever all steps before it are, and each own rename gives a final name of the entry to its text.
 -- Kept is answered only where these renames were made.
 -- Skipped is answered only where another's step made or removed a name that keeping uses, if all was ready at the entry.
-pub record Keeps (e : Entry) (text : EntryFile → List ℕ) (Ready : State → Type 0) (Done : Trace → Type 0) (result : Keep) (old new : FolderView) : Type 0 where
+pub record KeepsEntry (e : EntryPlace) (text : EntryFile → List ℕ) (Ready : State → Type 0) (Done : Trace → Type 0) (result : Keep) (old new : FolderView) : Type 0 where
   pub call : Called (IsProper e.root) (PutsEntry e text) (IsKeeping e old.token) (IsTidy e.root) Anywhere old new
   pub kept : result ≡ keep.Kept → Done (moved old new)
   pub skipped : result ≡ keep.Skipped → Ready (state old) → TouchedByOther old.token (UsesEntry e old.token) (moved old new)
 
 -- for one file: its folder is there, and no folder has its final or temporary name
-pub record IsReadyFor (e : Entry) (token : List ℕ) (file : EntryFile) (s : State) : Type 0 where
+pub record IsReadyFor (e : EntryPlace) (token : List ℕ) (file : EntryFile) (s : State) : Type 0 where
   pub home : is_folder s (entry_path e) ≡ true
   pub last_free : is_folder s (last_of e file) ≡ false
   pub temp_free : is_folder s (temp_of e token file) ≡ false
 
 -- One file alone: the same of its final and temporary name, and it is put in place at most once.
-pub record KeepsFile (e : Entry) (file : EntryFile) (bytes : List ℕ) (Ready : State → Type 0) (result : Keep) (old new : FolderView) : Type 0 where
+pub record KeepsFile (e : EntryPlace) (file : EntryFile) (bytes : List ℕ) (Ready : State → Type 0) (result : Keep) (old new : FolderView) : Type 0 where
   pub call : Called (IsProper e.root) (PutsThis e.root (last_of e file) bytes) (IsFor (last_of e file) (temp_of e old.token file)) (IsTidy e.root) Anywhere old new
   pub once : PutsInTurn (last_of e file ∷ []) old.token (moved old new)
   pub kept : result ≡ keep.Kept → HasPut e old.token file (moved old new)
   pub skipped : result ≡ keep.Skipped → Ready (state old) → TouchedByOther old.token (UsesNames (last_of e file) (temp_of e old.token file)) (moved old new)
 
 -- for a whole entry: the state is tidy, and the function's folder is there
-abbrev pub IsReadyToKeep : Entry → State → Type 0
+abbrev pub IsReadyToKeep : EntryPlace → State → Type 0
 IsReadyToKeep e s = IsTidy e.root s × (is_folder s (function_path e) ≡ true)
 
 -- for the files: the entry's folder is there, and no folder has one of their names
-abbrev pub AreReady : Entry → List ℕ → (EntryFile → Type 0) → State → Type 0
+abbrev pub AreReady : EntryPlace → List ℕ → (EntryFile → Type 0) → State → Type 0
 AreReady e token Files s = (file : EntryFile) → Files file → IsReadyFor e token file s
 
 -- for the last access: the state is tidy, and the entry's folder is there
-abbrev pub IsReadyToTouch : Entry → State → Type 0
+abbrev pub IsReadyToTouch : EntryPlace → State → Type 0
 IsReadyToTouch e s = IsTidy e.root s × (is_folder s (entry_path e) ≡ true)
 
 -- ---- alone
 
 -- the names of these files
-abbrev pub UsesFiles : Entry → List ℕ → (EntryFile → Type 0) → PathView → Type 0
+abbrev pub UsesFiles : EntryPlace → List ℕ → (EntryFile → Type 0) → PathView → Type 0
 UsesFiles e token Files p = (file : EntryFile) × Files file × ((p ≡ last_of e file) ⊎ (p ≡ temp_of e token file))
 
 -- these files have their texts, their temporary names are absent, and all else is as before
-pub record HasFiles (e : Entry) (token : List ℕ) (text : EntryFile → List ℕ) (Files : EntryFile → Type 0) (before after : State) : Type 0 where
+pub record HasFiles (e : EntryPlace) (token : List ℕ) (text : EntryFile → List ℕ) (Files : EntryFile → Type 0) (before after : State) : Type 0 where
   pub has : (file : EntryFile) → Files file → bytes_at after (last_of e file) ≡ Some (text file)
   pub gone : (file : EntryFile) → Files file → place_at after (temp_of e token file) ≡ None
   pub beside : IsBeside (UsesFiles e token Files) before after
 
 -- the entry's folder is there with its three files, their temporary names are absent, and all else is as before
-pub record HasEntry (e : Entry) (token : List ℕ) (text : EntryFile → List ℕ) (before after : State) : Type 0 where
+pub record HasEntry (e : EntryPlace) (token : List ℕ) (text : EntryFile → List ℕ) (before after : State) : Type 0 where
   pub folder : is_folder after (entry_path e) ≡ true
   pub has : (file : EntryFile) → bytes_at after (last_of e file) ≡ Some (text file)
   pub gone : (file : EntryFile) → place_at after (temp_of e token file) ≡ None
@@ -205,7 +205,7 @@ pub record HasEntry (e : Entry) (token : List ℕ) (text : EntryFile → List �
 -- ---- in the program
 
 -- the entry of a function and a key's bytes, where a run keeps answers
-abbrev pub entry_in : Memory → List ℕ → List ℕ → Entry
+abbrev pub entry_in : Memory → List ℕ → List ℕ → EntryPlace
 entry_in memory name key = record { root = root_of memory.location; module_name = memory.«module»; function_name = name; key = encode_lower key }
 
 -- the files that are published after the output
@@ -216,7 +216,7 @@ abbrev pub IsAnyFile : EntryFile → Type 0
 IsAnyFile file = ⊤
 
 -- metadata and last access were renamed to their final names
-abbrev pub HasPutMoments : Entry → List ℕ → Trace → Type 0
+abbrev pub HasPutMoments : EntryPlace → List ℕ → Trace → Type 0
 HasPutMoments e token steps = HasPut e token Metadata steps × HasPut e token Access steps
 
 -- the three texts that were made
@@ -226,8 +226,8 @@ text_in made Metadata = made.metadata
 text_in made Access = made.access
 
 -- each is whole for its file
-abbrev pub AreWhole : Entry → (EntryFile → List ℕ) → Type 0
-AreWhole e text = (file : EntryFile) → IsWhole (file_of e file) (text file)
+abbrev pub AreEntryTexts : EntryPlace → (EntryFile → List ℕ) → Type 0
+AreEntryTexts e text = (file : EntryFile) → IsWhole (file_of e file) (text file)
 
 -- publishing, as a part of keeping
 abbrev pub keep_of : Published → Keep

@@ -11,7 +11,7 @@ use Rattle.jl_folder.specs.State.{State, Trace, AtSome, is_file, bytes_at}
 use Rattle.jl_folder.specs.Views.{FolderView, state, moved}
 use Rattle.jl_text.specs.Counts.{Rose}
 use Rattle.jl_entry.specs.Entry.{Members, IsEntryOf, IsEntry, IsOther}
-use Rattle.jl_protocol.specs.Whole.{most_bytes, Answers}
+use Rattle.jl_protocol.specs.Whole.{most_bytes, CodeAnswers}
 use Rattle.jl_store.specs.Asked.{Asked, output_asked}
 use Rattle.jl_store.specs.declared.memory.WarnKind.{WarnKind}
 use Rattle.jl_store.specs.declared.memory.WarnKind.TheVariants.{LoadFault, NotMine, Damaged}
@@ -32,8 +32,8 @@ abbrev pub StandsWith : PathView → List ℕ → Members → Tree → State →
 StandsWith path code ps t s = (bytes : List ℕ) × (bytes_at s path ≡ Some bytes) × IsStored bytes code ps t
 
 -- an entry of this code and these arguments stands there
-abbrev pub Stands : PathView → List ℕ → Members → State → Type 0
-Stands path code ps s = (t : Tree) × StandsWith path code ps t s
+abbrev pub HasEntryOf : PathView → List ℕ → Members → State → Type 0
+HasEntryOf path code ps s = (t : Tree) × StandsWith path code ps t s
 
 -- the bytes are an entry, no longer than a reader reads
 abbrev pub IsReadable : List ℕ → Type 0
@@ -91,27 +91,27 @@ IsMissing other a old new = FindsAsked a found.NotMine old new
 IsMissing damaged a old new = FindsAsked a found.Damaged old new
 
 -- what a look answers, with the warnings before and after it
-abbrev pub Looks : Look → Asked → (warnings warnings' : List Warning) → FolderView → FolderView → Type 0
-Looks (look.Hit v) a ws ws' old new = (ws' ≡ ws) × FindsAsked a (found.Value v) old new
-Looks look.Miss a ws ws' old new = (why : Missing) × (ws' ≡ ws ++ warnings_for why a.function_name a.args) × IsMissing why a old new
-Looks look.NoMemory a ws ws' old new = ws' ≡ ws
+abbrev pub LooksUp : Look → Asked → (warnings warnings' : List Warning) → FolderView → FolderView → Type 0
+LooksUp (look.Hit v) a ws ws' old new = (ws' ≡ ws) × FindsAsked a (found.Value v) old new
+LooksUp look.Miss a ws ws' old new = (why : Missing) × (ws' ≡ ws ++ warnings_for why a.function_name a.args) × IsMissing why a old new
+LooksUp look.NoMemory a ws ws' old new = ws' ≡ ws
 
 -- a miss that is warned of
 abbrev pub IsMiss : Look → WarnKind → List ℕ → Key → (warnings warnings' : List Warning) → Type 0
 IsMiss r kind f key ws ws' = (r ≡ look.Miss) × (ws' ≡ ws ++ record { kind = kind; name = f; key = key } ∷ [])
 
 -- the answer for what was found
-abbrev pub IsSettled : Look → Found → List ℕ → Key → (warnings warnings' : List Warning) → Type 0
-IsSettled r (found.Value v) f key ws ws' = (r ≡ look.Hit v) × (ws' ≡ ws)
-IsSettled r found.Absent f key ws ws' = (r ≡ look.Miss) × (ws' ≡ ws)
-IsSettled r found.NotMine f key ws ws' = IsMiss r NotMine f key ws ws'
-IsSettled r found.Damaged f key ws ws' = IsMiss r Damaged f key ws ws'
-IsSettled r found.Fault f key ws ws' = IsMiss r LoadFault f key ws ws'
-IsSettled r found.NoMemory f key ws ws' = (r ≡ look.NoMemory) × (ws' ≡ ws)
+abbrev pub SettlesFound : Look → Found → List ℕ → Key → (warnings warnings' : List Warning) → Type 0
+SettlesFound r (found.Value v) f key ws ws' = (r ≡ look.Hit v) × (ws' ≡ ws)
+SettlesFound r found.Absent f key ws ws' = (r ≡ look.Miss) × (ws' ≡ ws)
+SettlesFound r found.NotMine f key ws ws' = IsMiss r NotMine f key ws ws'
+SettlesFound r found.Damaged f key ws ws' = IsMiss r Damaged f key ws ws'
+SettlesFound r found.Fault f key ws ws' = IsMiss r LoadFault f key ws ws'
+SettlesFound r found.NoMemory f key ws ws' = (r ≡ look.NoMemory) × (ws' ≡ ws)
 
 -- at one step no entry of this code and these arguments stood
 abbrev pub HadNone : Asked → FolderView → FolderView → Type 0
-HadNone a old new = AtSome (state old) (moved old new) (λ s. Stands (output_asked a) a.code a.args s → ⊥)
+HadNone a old new = AtSome (state old) (moved old new) (λ s. HasEntryOf (output_asked a) a.code a.args s → ⊥)
 
 -- the same beside runs whose steps are proper: a value stood as this entry at one step; where none was found, none of this code
 -- and these arguments stood at one step, or a fault rose; and nothing is damaged
@@ -121,7 +121,7 @@ LooksTidy look.Miss a ws ws' old new = (HadNone a old new ⊎ Rose old.faults ne
 LooksTidy look.NoMemory a ws ws' old new = ⊤
 
 -- a value that is found is what the code answers on the arguments
-abbrev pub IsAnswered : Look → Answers → List ℕ → Members → Type 0
+abbrev pub IsAnswered : Look → CodeAnswers → List ℕ → Members → Type 0
 IsAnswered (look.Hit v) answer code ps = answer code ps ≡ value (tree_of v)
 IsAnswered look.Miss answer code ps = ⊤
 IsAnswered look.NoMemory answer code ps = ⊤

@@ -15,8 +15,8 @@ use Rattle.jl_clear.specs.Taking.{IsBeside}
 use Rattle.jl_store.specs.Doing.{IsPrefix}
 use Rattle.jl_store.specs.Publishing.{IsPublished}
 use Rattle.jl_store.specs.Checking.{IsOfCode, function_path, code_path, code_temp}
-use Rattle.jl_store.specs.Keeping.{Entry, HasEntry, last_of, temp_of, texts}
-use Rattle.jl_store.specs.Looking.{StandsWith, Stands}
+use Rattle.jl_store.specs.Keeping.{EntryPlace, HasEntry, last_of, temp_of, texts}
+use Rattle.jl_store.specs.Looking.{StandsWith, HasEntryOf}
 use Rattle.jl_store.specs.Asked.{Asked, output_asked}
 use Rattle.jl_store.specs.declared.checks.CodeCheck.{CodeCheck}
 use Rattle.jl_store.specs.declared.checks.CodeCheck.TheVariants as check
@@ -61,15 +61,15 @@ ChecksAlone check.NoMemory function last temp code bytes s t = ⊤
 -- ---- the second part: the answer
 
 -- the entry of what is asked
-abbrev pub entry_asked : Asked → Entry
+abbrev pub entry_asked : Asked → EntryPlace
 entry_asked a = record { root = a.root; module_name = a.module_name; function_name = a.function_name; key = encode_lower (key_of a.args) }
 
 -- what the answer leaves: where an entry stood it is the answer, and its last access has this moment; where none stood, a value is kept
 -- whole with the duration and the moment, and at an error nothing changes
 abbrev pub AnswersAlone : Cached → Asked → (duration moment : ℕ) → State → State → Type 0
 AnswersAlone (cached.Hit v) a duration moment s t = StandsWith (output_asked a) a.code a.args (tree_of v) s × IsPublished (last_of (entry_asked a) Access) (temp_of (entry_asked a) a.token Access) (access_text moment) s t
-AnswersAlone (cached.Computed v) a duration moment s t = (Stands (output_asked a) a.code a.args s → ⊥) × HasEntry (entry_asked a) a.token (texts a.code a.args (tree_of v) duration moment) s t
-AnswersAlone (cached.Error e) a duration moment s t = (Stands (output_asked a) a.code a.args s → ⊥) × IsBeside (λ p. ⊥) s t
+AnswersAlone (cached.Computed v) a duration moment s t = (HasEntryOf (output_asked a) a.code a.args s → ⊥) × HasEntry (entry_asked a) a.token (texts a.code a.args (tree_of v) duration moment) s t
+AnswersAlone (cached.Error e) a duration moment s t = (HasEntryOf (output_asked a) a.code a.args s → ⊥) × IsBeside (λ p. ⊥) s t
 AnswersAlone cached.NoMemory a duration moment s t = ⊤
 
 -- ---- both

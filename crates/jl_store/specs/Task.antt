@@ -19,16 +19,16 @@ use Rattle.jl_entry.specs.declared.names.EntryFile.TheVariants.{Access}
 use Rattle.jl_rely.specs.Steps.{IsLone}
 use Rattle.jl_rely.specs.Claims.{Called, Anywhere}
 use Rattle.jl_rely.specs.Touches.{TouchedByOther}
-use Rattle.jl_protocol.specs.Whole.{Answers}
+use Rattle.jl_protocol.specs.Whole.{CodeAnswers}
 use Rattle.jl_protocol.specs.Proper.{IsProper, IsLawful}
 use Rattle.jl_protocol.specs.Tidy.{IsTidy, IsSound}
 use Rattle.jl_store.specs.Asked.{Asked}
 use Rattle.jl_store.specs.Cached.{CountsCall}
 use Rattle.jl_store.specs.Calling.{IsCalling}
 use Rattle.jl_store.specs.Checking.{Checks, IsChecking, UsesCode, function_path, code_path, code_temp}
-use Rattle.jl_store.specs.Keeping.{Keeps, KeepsFile, IsMakingEntry, InOrder, HasEntry, HasPutAll, lasts_of, last_of, temp_of, IsReadyToKeep, IsReadyToTouch, texts}
+use Rattle.jl_store.specs.Keeping.{KeepsEntry, KeepsFile, IsMakingEntry, InOrder, HasEntry, HasPutAll, lasts_of, last_of, temp_of, IsReadyToKeep, IsReadyToTouch, texts}
 use Rattle.jl_store.specs.Kinds.{PutsThis}
-use Rattle.jl_store.specs.Looking.{Looks, LooksTidy, IsAnswered, warning}
+use Rattle.jl_store.specs.Looking.{LooksUp, LooksTidy, IsAnswered, warning}
 use Rattle.jl_store.specs.Next.{entry_asked, ChecksAlone}
 use Rattle.jl_store.specs.Parts.{keep_warns, check_warns}
 use Rattle.jl_store.specs.Publishing.{IsPublished}
@@ -87,9 +87,9 @@ look_of NoMemory = look.NoMemory
 pub record HasLooked (a : Asked) (result : Look) (before after : Point) : Type 0 where
   pub answers : FolderAnswers (after.warnings ≡ before.warnings ++ warning LoadFault a.function_name a.args ∷ []) before.folder after.folder
   pub waits : Waits before.folder after.folder
-  pub looks : Looks result a before.warnings after.warnings before.folder after.folder
+  pub looks : LooksUp result a before.warnings after.warnings before.folder after.folder
   pub tidy : IsOrderly a.root before.folder after.folder → LooksTidy result a before.warnings after.warnings before.folder after.folder
-  pub sound : (answer : Answers) → IsTrusted a.root answer before.folder after.folder → IsAnswered result answer a.code a.args
+  pub sound : (answer : CodeAnswers) → IsTrusted a.root answer before.folder after.folder → IsAnswered result answer a.code a.args
   pub calls : after.calls ≡ before.calls
   pub clock : after.host.moments ≡ before.host.moments
 
@@ -110,7 +110,7 @@ pub record HasKept (a : Asked) (t : Tree) (duration moment : ℕ) (ws ws' : List
   pub kept : Keep
   pub answers : FolderAnswers (kept ≡ keep.Fault) before after
   pub remembers : kept ≢ keep.NoMemory
-  pub call : Keeps (entry_asked a) (texts a.code a.args t duration moment) (IsReadyToKeep (entry_asked a)) (HasPutAll (entry_asked a) before.token) kept before after
+  pub call : KeepsEntry (entry_asked a) (texts a.code a.args t duration moment) (IsReadyToKeep (entry_asked a)) (HasPutAll (entry_asked a) before.token) kept before after
   pub once : PutsInTurn (lasts_of (entry_asked a)) before.token (moved before after)
   pub order : InOrder (IsMakingEntry (entry_asked a)) (entry_asked a) before.token (moved before after)
   pub alone : kept ≡ keep.Kept → IsLone before.token (moved before after) →
@@ -126,7 +126,7 @@ pub record HasFound (a : Asked) (before after : Point) : Type 0 where
   pub clock : before.host.told → after.host.moments ≡ moments_after before.host.moments
 
 -- a value that the function answered: the call is counted, the clock is read before and after it, and the value is kept with how long it took and when it ended
-pub record HasComputed (answer : Answers) (a : Asked) (v : Value) (before after : Point) : Type 0 where
+pub record HasComputed (answer : CodeAnswers) (a : Asked) (v : Value) (before after : Point) : Type 0 where
   pub answered : answer a.code a.args ≡ value (tree_of v)
   pub duration : ℕ
   pub moment : ℕ
@@ -137,7 +137,7 @@ pub record HasComputed (answer : Answers) (a : Asked) (v : Value) (before after 
   pub clock : before.host.told → after.host.moments ≡ moments_after (moments_after before.host.moments)
 
 -- an error that the function answered: the same, and nothing is kept
-pub record HasFailed (answer : Answers) (a : Asked) (e : TaskError) (before after : Point) : Type 0 where
+pub record HasFailed (answer : CodeAnswers) (a : Asked) (e : TaskError) (before after : Point) : Type 0 where
   pub answered : answer a.code a.args ≡ error e
   pub answers : FolderAnswers ⊥ before.folder after.folder
   pub history : after.folder.history ≡ before.folder.history
@@ -146,7 +146,7 @@ pub record HasFailed (answer : Answers) (a : Asked) (e : TaskError) (before afte
   pub clock : before.host.told → after.host.moments ≡ moments_after (moments_after before.host.moments)
 
 -- by the answer of the call; for want of memory it may have ended anywhere
-abbrev pub HasAnswered : Answers → Asked → Cached → Point → Point → Type 0
+abbrev pub HasAnswered : CodeAnswers → Asked → Cached → Point → Point → Type 0
 HasAnswered answer a (Hit v) before after = HasFound a before after
 HasAnswered answer a (Computed v) before after = HasComputed answer a v before after
 HasAnswered answer a (Error e) before after = HasFailed answer a e before after
@@ -155,13 +155,13 @@ HasAnswered answer a NoMemory before after = ⊤
 -- ---- the call
 
 -- the look and the answer, and what stood between them
-pub record AnswerDid (answer : Answers) (a : Asked) (r : Cached) (before after : Point) : Type 0 where
+pub record AnswerDid (answer : CodeAnswers) (a : Asked) (r : Cached) (before after : Point) : Type 0 where
   pub looked : Between
   pub second : HasLooked a (look_of r) before (reached before looked)
   pub third : HasAnswered answer a r (reached before looked) after
 
 -- the three parts, and what stood between them
-pub record PartsDid (answer : Answers) (a : Asked) (r : Cached) (before after : Point) : Type 0 where
+pub record PartsDid (answer : CodeAnswers) (a : Asked) (r : Cached) (before after : Point) : Type 0 where
   pub check : CodeCheck
   pub checked : Between
   pub looked : Between
@@ -185,7 +185,7 @@ lasts_asked NoMemory a = code_path a.root a.module_name a.function_name ∷ last
 
 -- What one cached call did between two points, where the folder tells: lawful throughout, by moves of its answer; and, if memory sufficed, its
 -- three parts, one after the other.
-pub record TaskDid (answer : Answers) (a : Asked) (r : Cached) (before after : Point) : Type 0 where
+pub record TaskDid (answer : CodeAnswers) (a : Asked) (r : Cached) (before after : Point) : Type 0 where
   pub call : Called (IsLawful a.root answer) (IsLawful a.root answer) (IsCalling r (entry_asked a) before.folder.token)
       (IsSound a.root answer) (IsSound a.root answer) before.folder after.folder
   pub folder : FolderKeeps before.folder after.folder
@@ -194,7 +194,7 @@ pub record TaskDid (answer : Answers) (a : Asked) (r : Cached) (before after : P
   pub parts : IfAnswered r (PartsDid answer a r before after)
 
 -- What cached calls did, one after the other: each begins where the one before it ended.
-unfoldable pub TasksDid : Answers → List Asked → List Cached → Point → Point → Type 0
+unfoldable pub TasksDid : CodeAnswers → List Asked → List Cached → Point → Point → Type 0
 TasksDid answer [] [] before after = between after ≡ between before
 TasksDid answer [] (r ∷ results) before after = ⊥
 TasksDid answer (a ∷ asked) [] before after = ⊥

@@ -16,7 +16,7 @@ ghost use Rattle.jl_entry.specs.Entry.{IsHeadOf, Members};
 ghost use Rattle.jl_entry.specs.Moments.{IsMoment, access_text};
 ghost use Rattle.jl_entry.specs.Names.{root_of};
 ghost use Rattle.jl_entry.specs.declared.names.EntryFile.{EntryFile};
-ghost use Rattle.jl_protocol.specs.Whole.{Answers};
+ghost use Rattle.jl_protocol.specs.Whole.{CodeAnswers};
 ghost use Rattle.jl_protocol.specs.Tidy.{IsTidy, IsSound};
 ghost use Rattle.jl_protocol.specs.Proper.{IsProper, IsLawful};
 ghost use Rattle.jl_rely.specs.Claims.{Called as CallsFolder, Anywhere};
@@ -24,7 +24,7 @@ ghost use Rattle.jl_rely.specs.Steps.{IsLone};
 ghost use Rattle.jl_store.specs.Asked.{asked, output_path};
 ghost use Rattle.jl_store.specs.Publishing.{IsPublished};
 ghost use Rattle.jl_store.specs.Keeping.{HasPut, HasPutAll, IsMakingEntry, InOrder, PutsEntry, IsKeepable, IsReadyToKeep, IsReadyToTouch, HasEntry, entry_in, last_of, temp_of, texts as texts_of};
-ghost use Rattle.jl_store.specs.Looking.{Stands};
+ghost use Rattle.jl_store.specs.Looking.{HasEntryOf};
 ghost use Rattle.jl_store.specs.Cached.{IsAnswer, CountsCall, IsMissed, ComesBy, ComesTidy};
 ghost use Rattle.jl_store.specs.Calling.{IsAnswering, IsCalling, ClearsOnlyAnothers, IsBeforeOutput, IsOrdered, PutsAnswer, PutsFiles};
 ghost use Rattle.jl_store.specs.Next.{AnswersAlone, LeavesNext, AreTimed, LeftAfter};
@@ -136,7 +136,7 @@ fn found<F: Folder, H: Host>(
     requires token { (F.view folder.old).token ≡ memory.now.token }
     requires module_name { IsTrue (is_name memory.now.«module») }
     requires function_name { IsTrue (is_name name.now) }
-    ensures lawful { (F.view folder.old).told → (answer : Answers)
+    ensures lawful { (F.view folder.old).told → (answer : CodeAnswers)
         → CallsFolder (IsLawful (root_of memory.now.location) answer)
         (IsLawful (root_of memory.now.location) answer)
         (IsAnswering result (entry_in memory.now name.now key.now.0) (F.view folder.old).token)
@@ -205,7 +205,7 @@ fn computed<F: Folder>(
     requires value_proper { IsProperTree (tree_of value) }
     requires duration { IsMoment duration }
     requires moment { IsMoment moment }
-    ensures lawful { (F.view folder.old).told → (answer : Answers)
+    ensures lawful { (F.view folder.old).told → (answer : CodeAnswers)
         → answer code.now args.now ≡ value_is (tree_of value)
         → CallsFolder (IsLawful (root_of memory.now.location) answer)
         (IsLawful (root_of memory.now.location) answer) (IsAnswering result
@@ -301,7 +301,7 @@ fn missed<L: Library, F: Folder, H: Host>(
         → IsLone (F.view folder.old).token (moved (F.view folder.old) (F.view folder.new))
         → IsReadyToKeep (entry_in memory.now name.now (key_of args.now)) (state (F.view folder.old))
         → (Rose (F.view folder.old).faults (F.view folder.new).faults → ⊥)
-        → (Stands (output_path (root_of memory.now.location) memory.now.«module» name.now args.now)
+        → (HasEntryOf (output_path (root_of memory.now.location) memory.now.«module» name.now args.now)
         code.now args.now (state (F.view folder.old)) → ⊥)
         → (duration : ℕ) × (moment : ℕ) × AnswersAlone result
         (asked memory.now name.now code.now n args.now) duration moment (state (F.view folder.old))

@@ -14,14 +14,14 @@ ghost use Rattle.jl_entry.specs.Names.{Final, IsFinal, IsTemp, root_of, IsFuncti
 ghost use Rattle.jl_rely.specs.Steps.{IsLone};
 ghost use Rattle.jl_rely.specs.Touches.{TouchedByOther};
 ghost use Rattle.jl_rely.specs.Claims.{Called, Anywhere};
-ghost use Rattle.jl_protocol.specs.Whole.{Answers, IsWhole};
+ghost use Rattle.jl_protocol.specs.Whole.{CodeAnswers, IsWhole};
 ghost use Rattle.jl_protocol.specs.Tidy.{IsTidy};
 ghost use Rattle.jl_protocol.specs.Proper.{IsProper, LawfulThroughout};
-ghost use Rattle.jl_store.specs.Alone.{LeavesAlone};
+ghost use Rattle.jl_store.specs.Alone.{LeavesCodeAlone};
 ghost use Rattle.jl_store.specs.Kinds.{IsFor, PutsThis, UsesNames};
 ghost use Rattle.jl_store.specs.Next.{ChecksAlone};
 ghost use Rattle.jl_store.specs.Publishing.{IsOfFile, IsPublished};
-ghost use Rattle.jl_store.specs.Checking.{IsHeld, Holds, AreFiles, IsDone, Stores, MovesFor, Comes, UsesCode, SkipsFor, Checks, IsChecking, check_of, function_path, code_path, code_temp};
+ghost use Rattle.jl_store.specs.Checking.{IsHeld, Holds, AreFiles, IsCodePublished, Stores, MovesFor, Comes, UsesCode, SkipsFor, Checks, IsChecking, check_of, function_path, code_path, code_temp};
 ghost use Rattle.jl_store.specs.Renames.{PutsInTurn};
 ghost use Rattle.jl_store.specs.Warned.{IsOrderly};
 
@@ -100,7 +100,7 @@ fn store<F: Folder>(folder: &mut F, files: &CodeFiles, bytes: &[u8], done: CodeC
         IsTemp root x (F.view folder.old).token files.now.temp → IsFinal root x files.now.last → IsWhole x bytes.now →
         IsTidy root (state (F.view folder.old)) → has_parent (state (F.view folder.old)) files.now.last ≡ true →
         TouchedByOther (F.view folder.old).token (UsesNames files.now.last files.now.temp) (moved (F.view folder.old) (F.view folder.new)) }
-    ensures alone { (F.view folder.old).told → IsDone result → IsLone (F.view folder.old).token (moved (F.view folder.old) (F.view folder.new)) →
+    ensures alone { (F.view folder.old).told → IsCodePublished result → IsLone (F.view folder.old).token (moved (F.view folder.old) (F.view folder.new)) →
         IsPublished files.now.last files.now.temp bytes.now (state (F.view folder.old)) (state (F.view folder.new)) }
 {
     let published = publish(folder, &files.last, &files.temp, bytes);
@@ -117,7 +117,7 @@ fn write_new<F: Folder>(alloc: Global, folder: &mut F, files: &CodeFiles, bytes:
         → SkipsFor result files.now bytes.now Anywhere (F.view folder.old) (F.view folder.new) }
     ensures alone { (F.view folder.old).told
         → IsLone (F.view folder.old).token (moved (F.view folder.old) (F.view folder.new))
-        → LeavesAlone result files.now bytes.now (F.view folder.old) (F.view folder.new) }
+        → LeavesCodeAlone result files.now bytes.now (F.view folder.old) (F.view folder.new) }
 {
     match make_folders(alloc, folder, &files.folder) {
         MadeFolders::Made => store(folder, files, bytes, CodeCheck::Written),
@@ -144,7 +144,7 @@ fn write_over<F: Folder>(
         (F.view folder.old) (F.view folder.new) }
     ensures alone { (F.view folder.old).told
         → IsLone (F.view folder.old).token (moved (F.view folder.old) (F.view folder.new))
-        → LeavesAlone result files.now bytes.now (F.view folder.old) (F.view folder.new) }
+        → LeavesCodeAlone result files.now bytes.now (F.view folder.old) (F.view folder.new) }
 {
     match clear_entries(alloc, folder, &files.folder) {
         Clear::Cleared => store(folder, files, bytes, CodeCheck::Cleared),
@@ -172,7 +172,7 @@ fn follow<F: Folder>(
         (F.view folder.old) (F.view folder.new) }
     ensures alone { (F.view folder.old).told
         → IsLone (F.view folder.old).token (moved (F.view folder.old) (F.view folder.new))
-        → LeavesAlone result files.now bytes.now (F.view folder.old) (F.view folder.new) }
+        → LeavesCodeAlone result files.now bytes.now (F.view folder.old) (F.view folder.new) }
 {
     match held {
         Held::Same => CodeCheck::Same,
@@ -212,7 +212,7 @@ pub fn check_code<F: Folder>(
     ensures once { (F.view folder.old).told
         → PutsInTurn (code_path (root_of memory.now.location) memory.now.«module» name.now ∷ [])
         (F.view folder.old).token (moved (F.view folder.old) (F.view folder.new)) }
-    ensures lawful { (F.view folder.old).told → (answer : Answers) →
+    ensures lawful { (F.view folder.old).told → (answer : CodeAnswers) →
         LawfulThroughout (root_of memory.now.location) answer memory.now.token (state (F.view folder.old)) (moved (F.view folder.old) (F.view folder.new)) }
     // What the answer tells of the code's file at its opening, and of the own moves.
     ensures checks { (F.view folder.old).told → Checks result

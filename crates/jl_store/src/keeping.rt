@@ -17,7 +17,7 @@ ghost use Rattle.jl_clear.specs.Taking.{IsBeside};
 ghost use Rattle.jl_store.specs.Kinds.{UsesNames};
 ghost use Rattle.jl_store.specs.Publishing.{IsPublished};
 ghost use Rattle.jl_store.specs.Renames.{PutsInTurn};
-ghost use Rattle.jl_store.specs.Keeping.{entry_in, entry_path, function_path, file_of, last_of, temp_of, texts as texts_of, text_in, AreWhole, keep_of, made_of, IsKeepable, Keeps, KeepsFile, HasPutMoments, HasPutAll, IsMakingEntry, moments_of, lasts_of, MomentsInOrder, InOrder, IsMoments, IsAnyFile, Entry, UsesEntry, IsReadyFor, AreReady, IsReadyToKeep, IsReadyToTouch, HasFiles, HasEntry};
+ghost use Rattle.jl_store.specs.Keeping.{entry_in, entry_path, function_path, file_of, last_of, temp_of, texts as texts_of, text_in, AreEntryTexts, keep_of, made_of, IsKeepable, KeepsEntry, KeepsFile, HasPutMoments, HasPutAll, IsMakingEntry, moments_of, lasts_of, MomentsInOrder, InOrder, IsMoments, IsAnyFile, EntryPlace, UsesEntry, IsReadyFor, AreReady, IsReadyToKeep, IsReadyToTouch, HasFiles, HasEntry};
 ghost use Rattle.jl_store.specs.declared.keeping.EntryTexts.{EntryTexts};
 
 use crate::answer::Keep;
@@ -148,7 +148,7 @@ fn make_entry<F: Folder>(
         (IsMakingEntry (entry_in memory.now name.now key.now.0))
         (moved (F.view folder.old) (F.view folder.new)) }
     ensures called { (F.view folder.old).told → (text : EntryFile → List ℕ)
-        → Keeps (entry_in memory.now name.now key.now.0) text
+        → KeepsEntry (entry_in memory.now name.now key.now.0) text
         (λ s. is_folder s (function_path (entry_in memory.now name.now key.now.0)) ≡ true)
         (λ steps. ⊤) result (F.view folder.old) (F.view folder.new) }
     ensures ready { (F.view folder.old).told → result ≡ Keep.Kept
@@ -181,7 +181,7 @@ fn keep_moments<F: Folder>(
     requires token { (F.view folder.old).token ≡ memory.now.token }
     requires module_name { IsTrue (is_name memory.now.«module») }
     requires function_name { IsTrue (is_name name.now) }
-    requires whole { AreWhole (entry_in memory.now name.now key.now.0) (text_in texts.now) }
+    requires whole { AreEntryTexts (entry_in memory.now name.now key.now.0) (text_in texts.now) }
     ensures goes { (F.view folder.old).told → GoesOn (F.view folder.old) (F.view folder.new) }
     ensures frame { FolderAnswers (result ≡ Keep.Fault) (F.view folder.old) (F.view folder.new) }
     ensures once { (F.view folder.old).told
@@ -191,13 +191,13 @@ fn keep_moments<F: Folder>(
         → MomentsInOrder (entry_in memory.now name.now key.now.0) (F.view folder.old).token
         (moved (F.view folder.old) (F.view folder.new)) }
     ensures called { (F.view folder.old).told
-        → AreWhole (entry_in memory.now name.now key.now.0) (text_in texts.now)
-        → Keeps (entry_in memory.now name.now key.now.0) (text_in texts.now)
+        → AreEntryTexts (entry_in memory.now name.now key.now.0) (text_in texts.now)
+        → KeepsEntry (entry_in memory.now name.now key.now.0) (text_in texts.now)
         (AreReady (entry_in memory.now name.now key.now.0) (F.view folder.old).token IsMoments)
         (HasPutMoments (entry_in memory.now name.now key.now.0) (F.view folder.old).token) result
         (F.view folder.old) (F.view folder.new) }
     ensures alone { (F.view folder.old).told
-        → AreWhole (entry_in memory.now name.now key.now.0) (text_in texts.now) → result ≡ Keep.Kept
+        → AreEntryTexts (entry_in memory.now name.now key.now.0) (text_in texts.now) → result ≡ Keep.Kept
         → IsLone (F.view folder.old).token (moved (F.view folder.old) (F.view folder.new))
         → HasFiles (entry_in memory.now name.now key.now.0) (F.view folder.old).token
         (text_in texts.now) IsMoments (state (F.view folder.old)) (state (F.view folder.new)) }
@@ -234,7 +234,7 @@ fn keep_files<F: Folder>(
     requires token { (F.view folder.old).token ≡ memory.now.token }
     requires module_name { IsTrue (is_name memory.now.«module») }
     requires function_name { IsTrue (is_name name.now) }
-    requires whole { AreWhole (entry_in memory.now name.now key.now.0) (text_in texts.now) }
+    requires whole { AreEntryTexts (entry_in memory.now name.now key.now.0) (text_in texts.now) }
     ensures goes { (F.view folder.old).told → GoesOn (F.view folder.old) (F.view folder.new) }
     ensures frame { FolderAnswers (result ≡ Keep.Fault) (F.view folder.old) (F.view folder.new) }
     ensures once { (F.view folder.old).told
@@ -245,13 +245,13 @@ fn keep_files<F: Folder>(
         (entry_in memory.now name.now key.now.0) (F.view folder.old).token
         (moved (F.view folder.old) (F.view folder.new)) }
     ensures called { (F.view folder.old).told
-        → AreWhole (entry_in memory.now name.now key.now.0) (text_in texts.now)
-        → Keeps (entry_in memory.now name.now key.now.0) (text_in texts.now)
+        → AreEntryTexts (entry_in memory.now name.now key.now.0) (text_in texts.now)
+        → KeepsEntry (entry_in memory.now name.now key.now.0) (text_in texts.now)
         (AreReady (entry_in memory.now name.now key.now.0) (F.view folder.old).token IsAnyFile)
         (HasPutAll (entry_in memory.now name.now key.now.0) (F.view folder.old).token) result
         (F.view folder.old) (F.view folder.new) }
     ensures alone { (F.view folder.old).told
-        → AreWhole (entry_in memory.now name.now key.now.0) (text_in texts.now) → result ≡ Keep.Kept
+        → AreEntryTexts (entry_in memory.now name.now key.now.0) (text_in texts.now) → result ≡ Keep.Kept
         → IsLone (F.view folder.old).token (moved (F.view folder.old) (F.view folder.new))
         → HasFiles (entry_in memory.now name.now key.now.0) (F.view folder.old).token
         (text_in texts.now) IsAnyFile (state (F.view folder.old)) (state (F.view folder.new)) }
@@ -277,7 +277,7 @@ fn keep_texts<F: Folder>(
     requires token { (F.view folder.old).token ≡ memory.now.token }
     requires module_name { IsTrue (is_name memory.now.«module») }
     requires function_name { IsTrue (is_name name.now) }
-    requires whole { AreWhole (entry_in memory.now name.now key.now.0) (text_in texts.now) }
+    requires whole { AreEntryTexts (entry_in memory.now name.now key.now.0) (text_in texts.now) }
     ensures goes { (F.view folder.old).told → GoesOn (F.view folder.old) (F.view folder.new) }
     ensures frame { FolderAnswers (result ≡ Keep.Fault) (F.view folder.old) (F.view folder.new) }
     ensures once { (F.view folder.old).told
@@ -288,13 +288,13 @@ fn keep_texts<F: Folder>(
         (entry_in memory.now name.now key.now.0) (F.view folder.old).token
         (moved (F.view folder.old) (F.view folder.new)) }
     ensures called { (F.view folder.old).told
-        → AreWhole (entry_in memory.now name.now key.now.0) (text_in texts.now)
-        → Keeps (entry_in memory.now name.now key.now.0) (text_in texts.now)
+        → AreEntryTexts (entry_in memory.now name.now key.now.0) (text_in texts.now)
+        → KeepsEntry (entry_in memory.now name.now key.now.0) (text_in texts.now)
         (IsReadyToKeep (entry_in memory.now name.now key.now.0))
         (HasPutAll (entry_in memory.now name.now key.now.0) (F.view folder.old).token) result
         (F.view folder.old) (F.view folder.new) }
     ensures alone { (F.view folder.old).told
-        → AreWhole (entry_in memory.now name.now key.now.0) (text_in texts.now) → result ≡ Keep.Kept
+        → AreEntryTexts (entry_in memory.now name.now key.now.0) (text_in texts.now) → result ≡ Keep.Kept
         → IsLone (F.view folder.old).token (moved (F.view folder.old) (F.view folder.new))
         → HasEntry (entry_in memory.now name.now key.now.0) (F.view folder.old).token
         (text_in texts.now) (state (F.view folder.old)) (state (F.view folder.new)) }
@@ -321,8 +321,8 @@ fn entry_texts(
     requires moment { IsMoment moment }
     ensures texts { IfOk result (λ t. (file : EntryFile) → text_in t file ≡ texts_of code.now
         args.now (tree_of value.now) duration moment file) }
-    ensures whole { (e : Entry) → e.key ≡ encode_lower (key_of args.now)
-        → IfOk result (λ t. AreWhole e (text_in t)) }
+    ensures whole { (e : EntryPlace) → e.key ≡ encode_lower (key_of args.now)
+        → IfOk result (λ t. AreEntryTexts e (text_in t)) }
 {
     let output = write_output(alloc, code, args, value)?;
     let metadata = write_metadata(alloc, duration, moment)?;
@@ -364,7 +364,7 @@ pub(crate) fn keep_as<F: Folder>(
         (entry_in memory.now name.now (key_of args.now)) (F.view folder.old).token
         (moved (F.view folder.old) (F.view folder.new)) }
     ensures called { (F.view folder.old).told
-        → Keeps (entry_in memory.now name.now (key_of args.now))
+        → KeepsEntry (entry_in memory.now name.now (key_of args.now))
         (texts_of code.now args.now (tree_of value.now) duration moment)
         (IsReadyToKeep (entry_in memory.now name.now (key_of args.now)))
         (HasPutAll (entry_in memory.now name.now (key_of args.now)) (F.view folder.old).token)
@@ -414,7 +414,7 @@ pub fn keep<F: Folder>(
         (entry_in memory.now name.now (key_of args.now)) (F.view folder.old).token
         (moved (F.view folder.old) (F.view folder.new)) }
     ensures called { (F.view folder.old).told
-        → Keeps (entry_in memory.now name.now (key_of args.now))
+        → KeepsEntry (entry_in memory.now name.now (key_of args.now))
         (texts_of code.now args.now (tree_of value.now) duration moment)
         (IsReadyToKeep (entry_in memory.now name.now (key_of args.now)))
         (HasPutAll (entry_in memory.now name.now (key_of args.now)) (F.view folder.old).token)

@@ -6,9 +6,9 @@ ghost use Rattle.jl_folder.specs.Calls.{Waits};
 ghost use Rattle.jl_value.specs.Key.{key_of};
 ghost use Rattle.jl_entry.specs.Entry.{IsHeadOf, Members};
 ghost use Rattle.jl_entry.specs.Names.{root_of};
-ghost use Rattle.jl_protocol.specs.Whole.{Answers};
+ghost use Rattle.jl_protocol.specs.Whole.{CodeAnswers};
 ghost use Rattle.jl_store.specs.Asked.{asked};
-ghost use Rattle.jl_store.specs.Looking.{IsJudged, Finds, IsMiss, IsSettled, Looks, LooksTidy, IsAnswered, warning};
+ghost use Rattle.jl_store.specs.Looking.{IsJudged, Finds, IsMiss, SettlesFound, LooksUp, LooksTidy, IsAnswered, warning};
 ghost use Rattle.jl_store.specs.Trust.{IsTrusted};
 ghost use Rattle.jl_store.specs.Warned.{IsOrderly};
 
@@ -97,7 +97,7 @@ fn miss(warnings: &mut Vec<Warning>, kind: WarnKind, name: Text, key: Key) -> Lo
 // The answer of a look, and its warning.
 fn settle(found: Found, name: Text, key: Key, warnings: &mut Vec<Warning>) -> Look
     requires { vec_len warnings.old < vec_capacity warnings.old }
-    ensures { IsSettled result found name key warnings.old.items warnings.new.items }
+    ensures { SettlesFound result found name key warnings.old.items warnings.new.items }
 {
     match found {
         Found::Value(value) => Look::Hit(value),
@@ -145,7 +145,7 @@ pub(crate) fn look_for<F: Folder>(
     ensures waits { (F.view folder.old).told → Waits (F.view folder.old) (F.view folder.new) }
     ensures looks { (code : List ℕ) (n : ℕ) (ps : Members) → IsHeadOf wanted.now.head code ps
         → wanted.now.key.0 ≡ key_of ps
-        → Looks result (asked memory.now name.now code n ps) warnings.old.items warnings.new.items
+        → LooksUp result (asked memory.now name.now code n ps) warnings.old.items warnings.new.items
         (F.view folder.old) (F.view folder.new) }
     ensures tidy { (F.view folder.old).told → (code : List ℕ) (n : ℕ) (ps : Members)
         → IsHeadOf wanted.now.head code ps → wanted.now.key.0 ≡ key_of ps
@@ -153,7 +153,7 @@ pub(crate) fn look_for<F: Folder>(
         → LooksTidy result (asked memory.now name.now code n ps) warnings.old.items
         warnings.new.items (F.view folder.old) (F.view folder.new) }
     ensures sound { (code : List ℕ) (ps : Members) → IsHeadOf wanted.now.head code ps
-        → wanted.now.key.0 ≡ key_of ps → (answer : Answers)
+        → wanted.now.key.0 ≡ key_of ps → (answer : CodeAnswers)
         → IsTrusted (root_of memory.now.location) answer (F.view folder.old) (F.view folder.new)
         → IsAnswered result answer code ps }
 {
@@ -196,13 +196,13 @@ pub fn look<F: Folder>(
         WarnKind.LoadFault name.now args.now ∷ []) (F.view folder.old) (F.view folder.new) }
     ensures waits { (F.view folder.old).told → Waits (F.view folder.old) (F.view folder.new) }
     ensures looks { (n : ℕ)
-        → Looks result (asked memory.now name.now code.now n args.now) warnings.old.items
+        → LooksUp result (asked memory.now name.now code.now n args.now) warnings.old.items
         warnings.new.items (F.view folder.old) (F.view folder.new) }
     ensures tidy { (F.view folder.old).told → (n : ℕ)
         → IsOrderly (root_of memory.now.location) (F.view folder.old) (F.view folder.new)
         → LooksTidy result (asked memory.now name.now code.now n args.now) warnings.old.items
         warnings.new.items (F.view folder.old) (F.view folder.new) }
-    ensures sound { (answer : Answers)
+    ensures sound { (answer : CodeAnswers)
         → IsTrusted (root_of memory.now.location) answer (F.view folder.old) (F.view folder.new)
         → IsAnswered result answer code.now args.now }
 {

@@ -17,8 +17,8 @@ use Rattle.jl_folder.proofs.Looks.{place_at-after}
 use Rattle.jl_folder.proofs.Traces.{run-append}
 use Rattle.jl_folder.proofs.ReadingLemmas.{since-is, now-on}
 use Rattle.jl_tracker.specs.Stages.{FolderPoint}
-use Rattle.jl_tracker.specs.Removing.{TriesFile, TriesFolder, TriedName, TriedNames, TriedFolder, RemovesFolder}
-use Rattle.jl_tracker.specs.Causes.{WentAway, HasCause}
+use Rattle.jl_tracker.specs.Removing.{TriesFile, TriesFolder, TriedName, TriedNames, TriedFolder, RemovesListed}
+use Rattle.jl_tracker.specs.Causes.{FilesWentAway, HasCause}
 
 -- the moves from one history to a later one
 record Steps (a b : History) (es : Trace) : Type 0 where
@@ -184,7 +184,7 @@ tried_cause p a b t = go t.last.call.own t.last.call.answer whole
     at_lead : run (now t.emptied.history) t.last.call.others ≡ run (now a.history) (t.list.waits.others ++ (many.moves ++ t.last.call.others))
     at_lead = ap (λ s. run s t.last.call.others) (at_empty ∙ ap (λ s. run s many.moves) at_list) ∙ sym (run-append (now a.history) t.list.waits.others (many.moves ++ t.last.call.others) ∙ run-append (run (now a.history) t.list.waits.others) many.moves t.last.call.others)
 
-    away : (Rose a.faults b.faults → ⊥) → WentAway (now a.history) (t.list.waits.others ++ (many.moves ++ t.last.call.others)) p
+    away : (Rose a.faults b.faults → ⊥) → FilesWentAway (now a.history) (t.list.waits.others ++ (many.moves ++ t.last.call.others)) p
     away still part named here = pick (here_or_away (now a.history) t.list.waits.others (p ++ part ∷ []))
       where
         tried : Rose t.listed.faults t.emptied.faults ⊎ AtSome (now t.listed.history) many.moves (λ x. is_file x (p ++ part ∷ []) ≡ false) → AtSome (now a.history) (t.list.waits.others ++ (many.moves ++ t.last.call.others)) (λ x. is_file x (p ++ part ∷ []) ≡ false)
@@ -222,7 +222,7 @@ tried_cause p a b t = go t.last.call.own t.last.call.answer whole
         le = omega (arith, begun, many.later)
 
 -- a folder that couldn't be removed
-pub folder_cause : (p : PathView) (a b : FolderPoint) → RemovesFolder p false a b → HasCause p a b
+pub folder_cause : (p : PathView) (a b : FolderPoint) → RemovesListed p false a b → HasCause p a b
 folder_cause p a b (inl t) = elim t.why [
   | inl h ↦ inl h.0
   | inr r ↦ inr (inr r)

@@ -2,12 +2,12 @@
 use Rattle.std.proofs.Common.{ℕ, ◌+◌, ◌≤◌, ◌⊎◌, inl, inr, List, [], ◌∷◌, Bool, true, false, sym, ap, subst, refl, arith}
 use Rattle.jl_text.specs.Paths.{PathView, path_of}
 use Rattle.jl_text.specs.Counts.{Rose}
-use Rattle.jl_tracker.specs.Stages.{Stage, FolderPoint, Point}
+use Rattle.jl_tracker.specs.Stages.{Stage, FolderPoint, StagePoint}
 use Rattle.jl_tracker.specs.declared.line.Kind.{Kind}
 use Rattle.jl_tracker.specs.declared.line.Kind.TheVariants as kind
 use Rattle.jl_tracker.specs.Removing.{TriedFile, TriedFolder, Removal}
 use Rattle.jl_tracker.specs.Effects.{Effect, reports_bad, reports_unknown, reports_leaked, removes}
-use Rattle.jl_tracker.specs.Plays.{EffectMoves, Does, PlaysAt}
+use Rattle.jl_tracker.specs.Plays.{EffectMoves, ComesAbout, PlaysAt}
 use Rattle.jl_tracker.specs.Failures.{FindsNoFile, GoesAsFound, FailsByFault, PlaysBut, RoseBy}
 use Rattle.jl_tracker.proofs.CauseLemmas.{folder_cause, names_later}
 
@@ -65,7 +65,7 @@ fault_rose (removes kind.Folder name) false a b h = h
 fault_rose (removes kind.Semlock name) done a b h = absurd h
 
 -- an effect before effects of which so many failed by faults
-effect_before : (s : Stage) (e : Effect) (es : List Effect) (done : Bool) (a m b : Point) (n : ℕ) → s.folder.told → Does s e done a m → PlaysBut s n es m b → RoseBy n m.folder.faults b.folder.faults → (k : ℕ) × PlaysBut s k (e ∷ es) a b × RoseBy k a.folder.faults b.folder.faults
+effect_before : (s : Stage) (e : Effect) (es : List Effect) (done : Bool) (a m b : StagePoint) (n : ℕ) → s.folder.told → ComesAbout s e done a m → PlaysBut s n es m b → RoseBy n m.folder.faults b.folder.faults → (k : ℕ) × PlaysBut s k (e ∷ es) a b × RoseBy k a.folder.faults b.folder.faults
 effect_before s e es done a m b n told does plays rose = go (effect_goes e done a.folder m.folder (does.moves told))
   where
     later : a.folder.faults ≤ m.folder.faults
@@ -76,6 +76,6 @@ effect_before s e es done a m b n told does plays rose = go (effect_goes e done 
     go (inr fault) = (n + 1, (done, m, does, inr (n, refl, fault, plays)), omega (arith, rose, fault_rose e done a.folder m.folder fault))
 
 -- of effects that come about, the removals that failed by faults alone are at most as many as the count rose by
-pub plays_but : (s : Stage) (es : List Effect) (a b : Point) → PlaysAt s es a b → s.folder.told → (n : ℕ) × PlaysBut s n es a b × RoseBy n a.folder.faults b.folder.faults
+pub plays_but : (s : Stage) (es : List Effect) (a b : StagePoint) → PlaysAt s es a b → s.folder.told → (n : ℕ) × PlaysBut s n es a b × RoseBy n a.folder.faults b.folder.faults
 plays_but s [] a b p told = (0, (refl, p), subst (λ x. RoseBy 0 a.folder.faults x.folder.faults) (sym p) (omega arith))
 plays_but s (e ∷ es) a b p told = let rest = plays_but s es p.1 b p.3 told in effect_before s e es p.0 a p.1 b rest.0 told p.2 rest.1 rest.2

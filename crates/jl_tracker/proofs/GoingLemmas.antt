@@ -8,7 +8,7 @@ use Rattle.std.proofs.lemmas.Bool.Decides.{Decides-ltb, leb_tells}
 use Rattle.jl_tracker.specs.TrackerLines.{LineView, IsTrackerLine}
 use Rattle.jl_tracker.specs.Counting.{CountsView}
 use Rattle.jl_tracker.specs.Effects.{IsReading, IsLineReading, AreReadings, line_effects, after_read, effects_from, counts_after}
-use Rattle.jl_tracker.specs.Tracking.{Seen, SeenAll}
+use Rattle.jl_tracker.specs.Tracking.{LinesSeen, SeenAll}
 
 -- a line and what stands behind it are the bytes
 pub line_split : (bs : List ℕ) → first_line bs ++ behind_line bs ≡ bs
@@ -56,8 +56,8 @@ line_behind w got left₁ left₂ w' took next =
     ∙ append_assoc (first_line (w ++ got)) (behind_line (w ++ got)) left₂ ∙ ap (λ l. first_line (w ++ got) ++ (l ++ left₂)) (sym next)
 
 -- one more line was seen, with its newline
-pub seen_line : (lines : List (List ℕ)) (left w got left₁ left₂ w' : List ℕ) → Seen lines left (w ++ left₁) → left₁ ≡ got ++ left₂ → 0 < length (w ++ got) → has_newline (w ++ got) ≡ true → w' ≡ behind_line (w ++ got)
-    → Seen (lines ++ first_line (w ++ got) ∷ []) left (w' ++ left₂)
+pub seen_line : (lines : List (List ℕ)) (left w got left₁ left₂ w' : List ℕ) → LinesSeen lines left (w ++ left₁) → left₁ ≡ got ++ left₂ → 0 < length (w ++ got) → has_newline (w ++ got) ≡ true → w' ≡ behind_line (w ++ got)
+    → LinesSeen (lines ++ first_line (w ++ got) ∷ []) left (w' ++ left₂)
 seen_line lines left w got left₁ left₂ w' s took some there next = record {
   input = s.input ++ first_line (w ++ got);
   left_is = s.left_is ∙ ap (λ l. s.input ++ l) (line_behind w got left₁ left₂ w' took next) ∙ sym (append_assoc s.input (first_line (w ++ got)) (w' ++ left₂));
@@ -72,7 +72,7 @@ seen_line lines left w got left₁ left₂ w' s took some there next = record {
 }
 
 -- the last line was seen, which has no newline
-pub seen_last : (lines : List (List ℕ)) (left w got left₁ left₂ w' : List ℕ) → Seen lines left (w ++ left₁) → left₁ ≡ got ++ left₂ → 0 < length (w ++ got) → has_newline (w ++ got) ≡ false → left₂ ≡ [] → w' ≡ behind_line (w ++ got)
+pub seen_last : (lines : List (List ℕ)) (left w got left₁ left₂ w' : List ℕ) → LinesSeen lines left (w ++ left₁) → left₁ ≡ got ++ left₂ → 0 < length (w ++ got) → has_newline (w ++ got) ≡ false → left₂ ≡ [] → w' ≡ behind_line (w ++ got)
     → SeenAll (lines ++ first_line (w ++ got) ∷ []) left (w' ++ left₂)
 seen_last lines left w got left₁ left₂ w' s took some none end next = (
   ap (λ l. l ++ first_line (w ++ got) ∷ []) s.lines_is ∙ ap (λ l. lines_of s.input ++ l) (sym (line_alone (w ++ got) some)) ∙ sym (s.ends (first_line (w ++ got))) ∙ ap lines_of (sym all),
@@ -86,10 +86,10 @@ seen_last lines left w got left₁ left₂ w' s took some none end next = (
     all = s.left_is ∙ ap (λ l. s.input ++ l) (line_behind w got left₁ left₂ w' took next ∙ ap (λ l. first_line (w ++ got) ++ l) nothing ∙ append-nil (first_line (w ++ got)))
 
 -- one more line was seen, with its newline, or as the last one without
-pub seen_either : (lines : List (List ℕ)) (left w got left₁ left₂ w' : List ℕ) → Seen lines left (w ++ left₁) → left₁ ≡ got ++ left₂ → 0 < length (w ++ got) → (has_newline (w ++ got) ≡ false → left₂ ≡ []) → w' ≡ behind_line (w ++ got)
-    → Seen (lines ++ first_line (w ++ got) ∷ []) left (w' ++ left₂) ⊎ SeenAll (lines ++ first_line (w ++ got) ∷ []) left (w' ++ left₂)
+pub seen_either : (lines : List (List ℕ)) (left w got left₁ left₂ w' : List ℕ) → LinesSeen lines left (w ++ left₁) → left₁ ≡ got ++ left₂ → 0 < length (w ++ got) → (has_newline (w ++ got) ≡ false → left₂ ≡ []) → w' ≡ behind_line (w ++ got)
+    → LinesSeen (lines ++ first_line (w ++ got) ∷ []) left (w' ++ left₂) ⊎ SeenAll (lines ++ first_line (w ++ got) ∷ []) left (w' ++ left₂)
 seen_either lines left w got left₁ left₂ w' s took some end next =
-    elim (has_newline (w ++ got)) as (λ v. has_newline (w ++ got) ≡ v → Seen (lines ++ first_line (w ++ got) ∷ []) left (w' ++ left₂) ⊎ SeenAll (lines ++ first_line (w ++ got) ∷ []) left (w' ++ left₂)) [
+    elim (has_newline (w ++ got)) as (λ v. has_newline (w ++ got) ≡ v → LinesSeen (lines ++ first_line (w ++ got) ∷ []) left (w' ++ left₂) ⊎ SeenAll (lines ++ first_line (w ++ got) ∷ []) left (w' ++ left₂)) [
       | true ↦ λ there. inl (seen_line lines left w got left₁ left₂ w' s took some there next)
       | false ↦ λ none. inr (seen_last lines left w got left₁ left₂ w' s took some none (end none) next)
     ] refl

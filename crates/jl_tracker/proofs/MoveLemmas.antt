@@ -22,11 +22,11 @@ use Rattle.jl_tracker.specs.declared.following.Tracked.TheVariants as tracked
 use Rattle.jl_tracker.specs.TrackerLines.{LineView}
 use Rattle.jl_tracker.specs.Counting.{no_counts}
 use Rattle.jl_tracker.specs.Effects.{Effect, reports_bad, reports_unknown, reports_leaked, removes, effects_from, counts_after, end_effects}
-use Rattle.jl_tracker.specs.Stages.{Stage, FolderPoint, Point, folder_point, point, view_at}
-use Rattle.jl_tracker.specs.Removing.{TriesFile, TriesFolder, TriedFile, TriedDir, TriedName, TriedNames, TriedFolder, RemovesFolder, Removal, MayMove, CutFolder, CutRemoval}
+use Rattle.jl_tracker.specs.Stages.{Stage, FolderPoint, StagePoint, folder_point, stage_point, view_at}
+use Rattle.jl_tracker.specs.Removing.{TriesFile, TriesFolder, TriedFile, TriedDir, TriedName, TriedNames, TriedFolder, RemovesListed, Removal, MayMove, CutFolder, CutRemoval}
 use Rattle.jl_tracker.specs.Tries.{RemovalTry}
 use Rattle.jl_tracker.specs.Plays.{EffectMoves, EffectCut, PlaysAt, CutFirst, StopsAt, Stops}
-use Rattle.jl_tracker.specs.Tracking.{Seen, SeenAll, Tracks}
+use Rattle.jl_tracker.specs.Tracking.{LinesSeen, SeenAll, Tracks}
 use Rattle.jl_tracker.specs.Taking.{all_effects, TakesResource, TakesFor, TakesForSome, MovesAsked}
 
 -- a move for one of the first effects
@@ -93,7 +93,7 @@ module _ (Kinds : Move → Type 0) where
       moves_then Kinds (view_at a) (view_at h.listed) (view_at b) (moves_waits Kinds (view_at a) (view_at h.listed) h.list.token h.list.waits)
       (moves_then Kinds (view_at h.listed) (view_at h.emptied) (view_at b) (tried_names p h.names h.listed h.emptied k h.tries) (tried_dir p done h.emptied b d h.last))
 
-  removes_folder : (p : PathView) (done : Bool) (a b : FolderPoint) → ((part : List ℕ) → Kinds (Remove (p ++ part ∷ []))) → Kinds (RemoveDir p) → RemovesFolder p done a b → Between a b
+  removes_folder : (p : PathView) (done : Bool) (a b : FolderPoint) → ((part : List ℕ) → Kinds (Remove (p ++ part ∷ []))) → Kinds (RemoveDir p) → RemovesListed p done a b → Between a b
   removes_folder p true a b k d h = tried_folder p true a b k d h
   removes_folder p false a b k d (inl h) = moves_waits Kinds (view_at a) (view_at b) h.token h.waits
   removes_folder p false a b k d (inr h) = tried_folder p false a b k d h
@@ -138,17 +138,17 @@ module _ (Kinds : Move → Type 0) where
   effect_cut (removes r name) a b k (inl h) = cut_removal r name a b k h
   effect_cut (removes r name) a b k (inr h) = removal r name false a b k h
 
-  plays : (s : Stage) (es : List Effect) (a b : Point) → s.folder.told → ((m : Move) → TakesForSome es m → Kinds m) → PlaysAt s es a b → Between a.folder b.folder
-  plays s [] a b told k h = still a.folder b.folder (ap (λ (x : Point). x.folder) h)
+  plays : (s : Stage) (es : List Effect) (a b : StagePoint) → s.folder.told → ((m : Move) → TakesForSome es m → Kinds m) → PlaysAt s es a b → Between a.folder b.folder
+  plays s [] a b told k h = still a.folder b.folder (ap (λ (x : StagePoint). x.folder) h)
   plays s (e ∷ es) a b told k h =
       moves_then Kinds (view_at a.folder) (view_at h.1.folder) (view_at b.folder) (effect e h.0 a.folder h.1.folder (λ m t. k m (inl t)) (h.2.moves told)) (plays s es h.1 b told (λ m t. k m (inr t)) h.3)
 
-  cut : (s : Stage) (es : List Effect) (a b : Point) → s.folder.told → ((m : Move) → TakesForSome es m → Kinds m) → CutFirst s es a b → Between a.folder b.folder
-  cut s [] a b told k h = still a.folder b.folder (ap (λ (x : Point). x.folder) h)
-  cut s (e ∷ es) a b told k (inl h) = still a.folder b.folder (ap (λ (x : Point). x.folder) h)
+  cut : (s : Stage) (es : List Effect) (a b : StagePoint) → s.folder.told → ((m : Move) → TakesForSome es m → Kinds m) → CutFirst s es a b → Between a.folder b.folder
+  cut s [] a b told k h = still a.folder b.folder (ap (λ (x : StagePoint). x.folder) h)
+  cut s (e ∷ es) a b told k (inl h) = still a.folder b.folder (ap (λ (x : StagePoint). x.folder) h)
   cut s (e ∷ es) a b told k (inr h) = effect_cut e a.folder b.folder (λ m t. k m (inl t)) (h.moves told)
 
-  stops : (s : Stage) (es : List Effect) (a b : Point) → s.folder.told → ((m : Move) → TakesForSome es m → Kinds m) → StopsAt s es a b → Between a.folder b.folder
+  stops : (s : Stage) (es : List Effect) (a b : StagePoint) → s.folder.told → ((m : Move) → TakesForSome es m → Kinds m) → StopsAt s es a b → Between a.folder b.folder
   stops s es a b told k h =
       moves_then Kinds (view_at a.folder) (view_at h.mid.folder) (view_at b.folder) (plays s h.first a h.mid told (λ m t. k m (subst (λ (xs : List Effect). TakesForSome xs m) (sym h.split) (front_of h.first h.rest m t))) h.plays)
       (cut s h.rest h.mid b told (λ m t. k m (subst (λ (xs : List Effect). TakesForSome xs m) (sym h.split) (back_of h.first h.rest m t))) h.cut)
@@ -160,11 +160,11 @@ removal_moves k name (Ok tried.Kept) old new h = moves_seen (TakesResource k nam
 removal_moves k name (Err e) old new h = moves_seen (TakesResource k name) old new (cut_removal (TakesResource k name) k name (folder_point old) (folder_point new) (λ m t. t) h)
 
 -- lines with which the bytes end are the first of the lines of all
-seen_first : (lines : List (List ℕ)) (left behind : List ℕ) → Seen lines left behind → (rest : List (List ℕ)) × (lines_of left ≡ lines ++ rest)
+seen_first : (lines : List (List ℕ)) (left behind : List ℕ) → LinesSeen lines left behind → (rest : List (List ℕ)) × (lines_of left ≡ lines ++ rest)
 seen_first lines left behind s = (lines_of behind, ap lines_of s.left_is ∙ s.ends behind ∙ ap (λ (ls : List (List ℕ)). ls ++ lines_of behind) (sym s.lines_is))
 
 -- the same where they may be all lines
-some_first : (lines : List (List ℕ)) (left behind : List ℕ) → Seen lines left behind ⊎ SeenAll lines left behind → (rest : List (List ℕ)) × (lines_of left ≡ lines ++ rest)
+some_first : (lines : List (List ℕ)) (left behind : List ℕ) → LinesSeen lines left behind ⊎ SeenAll lines left behind → (rest : List (List ℕ)) × (lines_of left ≡ lines ++ rest)
 some_first lines left behind (inl s) = seen_first lines left behind s
 some_first lines left behind (inr all) = ([], sym all.0 ∙ sym (append-nil lines))
 
@@ -179,21 +179,21 @@ tracks_moves source rest a b tracked.Ended told t = record {
   readings = t.readings;
   read = t.read;
   first = λ s. ([], sym (t.seen s).0 ∙ sym (append-nil t.lines));
-  moves = let K = TakesForSome (all_effects t.readings) in moves_seen K a.folder b.folder (plays K a (all_effects t.readings) (point a) (point b) told (λ m h. h) t.plays);
+  moves = let K = TakesForSome (all_effects t.readings) in moves_seen K a.folder b.folder (plays K a (all_effects t.readings) (stage_point a) (stage_point b) told (λ m h. h) t.plays);
 }
 tracks_moves source rest a b tracked.ReadFault told t = record {
   lines = t.lines;
   readings = t.readings;
   read = t.read;
   first = λ s. seen_first t.lines source.left (t.open_line ++ rest.left) (t.seen s);
-  moves = let K = TakesForSome (all_effects t.readings) in moves_seen K a.folder b.folder (plays K a (effects_from 1 no_counts t.readings) (point a) (point b) told (lines_ask t.readings) t.plays);
+  moves = let K = TakesForSome (all_effects t.readings) in moves_seen K a.folder b.folder (plays K a (effects_from 1 no_counts t.readings) (stage_point a) (stage_point b) told (lines_ask t.readings) t.plays);
 }
 tracks_moves source rest a b (tracked.TooMuch line) told t = record {
   lines = t.lines;
   readings = t.readings;
   read = t.read;
   first = λ s. seen_first t.lines source.left (t.open_line ++ (t.seen s).0 ∷ rest.left) (t.seen s).1;
-  moves = let K = TakesForSome (all_effects t.readings) in moves_seen K a.folder b.folder (plays K a (effects_from 1 no_counts t.readings) (point a) (point b) told (lines_ask t.readings) t.plays);
+  moves = let K = TakesForSome (all_effects t.readings) in moves_seen K a.folder b.folder (plays K a (effects_from 1 no_counts t.readings) (stage_point a) (stage_point b) told (lines_ask t.readings) t.plays);
 }
 tracks_moves source rest a b tracked.NoMemory told t = record {
   lines = t.lines;
@@ -204,5 +204,5 @@ tracks_moves source rest a b tracked.NoMemory told t = record {
 }
   where
     some : Stops (effects_from 1 no_counts t.readings) a b ⊎ ((source.told → SeenAll t.lines source.left rest.left) × Stops (all_effects t.readings) a b) → Between (TakesForSome (all_effects t.readings)) (folder_point a.folder) (folder_point b.folder)
-    some (inl h) = stops (TakesForSome (all_effects t.readings)) a (effects_from 1 no_counts t.readings) (point a) (point b) told (lines_ask t.readings) h
-    some (inr h) = stops (TakesForSome (all_effects t.readings)) a (all_effects t.readings) (point a) (point b) told (λ m x. x) h.1
+    some (inl h) = stops (TakesForSome (all_effects t.readings)) a (effects_from 1 no_counts t.readings) (stage_point a) (stage_point b) told (lines_ask t.readings) h
+    some (inr h) = stops (TakesForSome (all_effects t.readings)) a (all_effects t.readings) (stage_point a) (stage_point b) told (λ m x. x) h.1

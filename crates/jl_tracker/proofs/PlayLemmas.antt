@@ -8,12 +8,12 @@ use Rattle.jl_tracker.specs.declared.line.Kind.{Kind}
 use Rattle.jl_tracker.specs.declared.line.Kind.TheVariants as kind
 use Rattle.jl_tracker.specs.declared.table.Step.{Step}
 use Rattle.jl_tracker.specs.declared.table.Step.TheVariants as step
-use Rattle.jl_tracker.specs.TrackerLines.{LineView, registers, unregisters, may_unlink, probes, IsTrackerLine, IsNameOf}
-use Rattle.jl_tracker.specs.Counting.{CountsView, Applies, after_line, answer_of}
+use Rattle.jl_tracker.specs.TrackerLines.{LineView, registers, unregisters, may_unlink, probes, IsTrackerLine, IsNameOfKind}
+use Rattle.jl_tracker.specs.Counting.{CountsView, Applies, after_line, counts_answer}
 use Rattle.jl_tracker.specs.Removing.{Removal}
 use Rattle.jl_tracker.specs.Tries.{IsRemovable}
 use Rattle.jl_tracker.specs.Effects.{Effect, removes, removal_text, text_of, effects_of, line_effects}
-use Rattle.jl_tracker.specs.Stages.{Stage, StageKeeps, Point, stage, point, folder_point, sink_point}
+use Rattle.jl_tracker.specs.Stages.{Stage, StageKeeps, StagePoint, stage, stage_point, folder_point, sink_point}
 use Rattle.jl_tracker.specs.Plays.{Wrote, EffectMoves, EffectCut, Plays, PlaysAt, CutFirst, Stops, StopsAt, PlaysOrStops}
 use Rattle.jl_tracker.specs.Turns.{IsSaidRemovable, LinePlays, LineStops}
 use Rattle.jl_tracker.proofs.SpelledLemmas.{path_text-read}
@@ -38,7 +38,7 @@ no_text kind.Semlock name h = absurd (h refl)
 pub gone_plays : (k : Kind) (name : List ℕ) (old new : FolderView) (err : SinkView) → (old.told → Removal k name true (folder_point old) (folder_point new)) → (k ≡ kind.Semlock → ⊥) → Plays (removes k name ∷ []) (stage old err) (stage new err)
 gone_plays k name old new err moves other = (
   true,
-  point (stage new err),
+  stage_point (stage new err),
   record { moves = moves; text = λ t. (omega arith, inl (sym (append-nil err.written) ∙ ap (λ x. err.written ++ x) (sym (no_text k name other)), refl)) },
   refl,
 )
@@ -46,12 +46,12 @@ gone_plays k name old new err moves other = (
 -- one effect, of which the text was written or not for want of memory
 pub kept_ends : (e : Effect) {S : Type 0} (view : S → SinkView) (err err' : S) (old new : FolderView) {A E : Type 0} (r : Result A E) → MatchResult r (λ done. (view err).told → Wrote (text_of e false) (sink_point (view err)) (sink_point (view err'))) (λ want. err' ≡ err)
     → (old.told → EffectMoves e false (folder_point old) (folder_point new)) → (old.told → EffectCut e (folder_point old) (folder_point new)) → PlaysOrStops r (e ∷ []) (stage old (view err)) (stage new (view err'))
-kept_ends e view err err' old new (Ok done) text moves cut = (false, point (stage new (view err')), record { moves = moves; text = text }, refl)
+kept_ends e view err err' old new (Ok done) text moves cut = (false, stage_point (stage new (view err')), record { moves = moves; text = text }, refl)
 kept_ends e view err err' old new (Err want) same moves cut = record {
   first = [];
   rest = e ∷ [];
   split = refl;
-  mid = point (stage old (view err));
+  mid = stage_point (stage old (view err));
   plays = refl;
   cut = inr record { moves = cut; err_is = ap (λ s. sink_point (view s)) same };
 }
@@ -62,14 +62,14 @@ cut_stops e old new err cut = record {
   first = [];
   rest = e ∷ [];
   split = refl;
-  mid = point (stage old err);
+  mid = stage_point (stage old err);
   plays = refl;
   cut = inr record { moves = cut; err_is = refl };
 }
 
 -- there is nothing to do
 pub stops_none : (a : Stage) → Stops [] a a
-stops_none a = record { first = []; rest = []; split = refl; mid = point a; plays = refl; cut = refl }
+stops_none a = record { first = []; rest = []; split = refl; mid = stage_point a; plays = refl; cut = refl }
 
 -- no effects come about, whatever is answered
 pub none_ends : (a : Stage) {A E : Type 0} (r : Result A E) → PlaysOrStops r [] a a
@@ -78,14 +78,14 @@ none_ends a (Err want) = stops_none a
 
 -- what was counted of a line, and brought about; or there was no memory
 abbrev pub GoodEnds : {A E : Type 0} → LineView → CountsView → CountsView → Result A E → Stage → Stage → Type 0
-GoodEnds said old new r a b = MatchResult r (λ done. (new ≡ after_line said old) × Plays (effects_of said (answer_of said old)) a b) (λ want. Stops (effects_of said (answer_of said old)) a b)
+GoodEnds said old new r a b = MatchResult r (λ done. (new ≡ after_line said old) × Plays (effects_of said (counts_answer said old)) a b) (λ want. Stops (effects_of said (counts_answer said old)) a b)
 
 -- the effects of a line that was counted
 pub good_ends : (said : LineView) (old new : CountsView) (s : Step) {A E : Type 0} (r : Result A E) (a b : Stage) → Applies said old new s → (s ≡ step.NoMemory → IsErr r)
     → PlaysOrStops r (effects_of said s) a b → GoodEnds said old new r a b
 good_ends said old new s {A} {E} r a b h none ends = go s h none ends
   where
-    both : (s : Step) (r : Result A E) → s ≡ answer_of said old → new ≡ after_line said old → PlaysOrStops r (effects_of said s) a b → GoodEnds said old new r a b
+    both : (s : Step) (r : Result A E) → s ≡ counts_answer said old → new ≡ after_line said old → PlaysOrStops r (effects_of said s) a b → GoodEnds said old new r a b
     both s (Ok done) is n p = (n, subst (λ x. Plays (effects_of said x) a b) is p)
     both s (Err want) is n p = subst (λ x. Stops (effects_of said x) a b) is p
 
@@ -117,7 +117,7 @@ bad_ends number bytes old (Ok done) a b bad p = record { read = None; reading = 
 bad_ends number bytes old (Err want) a b bad p = record { read = None; reading = bad; stops = p }
 
 -- the resource of a line has a path
-named_removable : (k : Kind) (name : List ℕ) → IsNameOf k name → IsRemovable k name
+named_removable : (k : Kind) (name : List ℕ) → IsNameOfKind k name → IsRemovable k name
 named_removable kind.File name h = (path_text-read name h.1).0
 named_removable kind.Folder name h = (path_text-read name h.1).0
 named_removable kind.Semlock name h = tt
@@ -130,18 +130,18 @@ said_removable bytes (may_unlink k name) h = subst (IsRemovable k) (sym h.says.2
 said_removable bytes probes h = tt
 
 -- the effects come about where less is told
-pub plays_map : (s s' : Stage) (es : List Effect) (a b : Point) → StageKeeps s s' → PlaysAt s' es a b → PlaysAt s es a b
+pub plays_map : (s s' : Stage) (es : List Effect) (a b : StagePoint) → StageKeeps s s' → PlaysAt s' es a b → PlaysAt s es a b
 plays_map s s' [] a b keeps p = p
 plays_map s s' (e ∷ es) a b keeps p = (p.0, p.1, record { moves = λ t. p.2.moves (keeps.folder.told t); text = λ t. p.2.text (keeps.err.told t) }, plays_map s s' es p.1 b keeps p.3)
 
 -- the same of an effect that was cut off
-cut_map : (s s' : Stage) (es : List Effect) (a b : Point) → StageKeeps s s' → CutFirst s' es a b → CutFirst s es a b
+cut_map : (s s' : Stage) (es : List Effect) (a b : StagePoint) → StageKeeps s s' → CutFirst s' es a b → CutFirst s es a b
 cut_map s s' [] a b keeps c = c
 cut_map s s' (e ∷ es) a b keeps (inl c) = inl c
 cut_map s s' (e ∷ es) a b keeps (inr c) = inr record { moves = λ t. c.moves (keeps.folder.told t); err_is = c.err_is }
 
 -- the same of effects that stop
-pub stops_map : (s s' : Stage) (es : List Effect) (a b : Point) → StageKeeps s s' → StopsAt s' es a b → StopsAt s es a b
+pub stops_map : (s s' : Stage) (es : List Effect) (a b : StagePoint) → StageKeeps s s' → StopsAt s' es a b → StopsAt s es a b
 stops_map s s' es a b keeps q = record {
   first = q.first;
   rest = q.rest;
@@ -152,23 +152,23 @@ stops_map s s' es a b keeps q = record {
 }
 
 -- effects after effects
-plays_on : (s : Stage) (es fs : List Effect) (a m b : Point) → PlaysAt s es a m → PlaysAt s fs m b → PlaysAt s (es ++ fs) a b
+plays_on : (s : Stage) (es fs : List Effect) (a m b : StagePoint) → PlaysAt s es a m → PlaysAt s fs m b → PlaysAt s (es ++ fs) a b
 plays_on s [] fs a m b p q = subst (λ x. PlaysAt s fs x b) p q
 plays_on s (e ∷ es) fs a m b p q = (p.0, p.1, p.2, plays_on s es fs p.1 m b p.3 q)
 
 -- the same, where more is told at first
 pub plays_trans : (es fs : List Effect) (a m b : Stage) → StageKeeps a m → Plays es a m → Plays fs m b → Plays (es ++ fs) a b
-plays_trans es fs a m b keeps p q = plays_on a es fs (point a) (point m) (point b) p (plays_map a m fs (point m) (point b) keeps q)
+plays_trans es fs a m b keeps p q = plays_on a es fs (stage_point a) (stage_point m) (stage_point b) p (plays_map a m fs (stage_point m) (stage_point b) keeps q)
 
 -- the same, where the later ones stop
 pub plays_stops : (es fs : List Effect) (a m b : Stage) → StageKeeps a m → Plays es a m → Stops fs m b → Stops (es ++ fs) a b
 plays_stops es fs a m b keeps p stops =
-    let q = stops_map a m fs (point m) (point b) keeps stops in record {
+    let q = stops_map a m fs (stage_point m) (stage_point b) keeps stops in record {
       first = es ++ q.first;
       rest = q.rest;
       split = ap (λ l. es ++ l) q.split ∙ sym (append_assoc es q.first q.rest);
       mid = q.mid;
-      plays = plays_on a es q.first (point a) (point m) q.mid p q.plays;
+      plays = plays_on a es q.first (stage_point a) (stage_point m) q.mid p q.plays;
       cut = q.cut;
     }
 
@@ -183,17 +183,17 @@ stops_before es fs a b q = record {
   cut = more q.rest q.cut;
 }
   where
-    more : (rest : List Effect) → CutFirst a rest q.mid (point b) → CutFirst a (rest ++ fs) q.mid (point b)
+    more : (rest : List Effect) → CutFirst a rest q.mid (stage_point b) → CutFirst a (rest ++ fs) q.mid (stage_point b)
     more [] c = first_of fs c
       where
-        first_of : (fs : List Effect) → point b ≡ q.mid → CutFirst a fs q.mid (point b)
+        first_of : (fs : List Effect) → stage_point b ≡ q.mid → CutFirst a fs q.mid (stage_point b)
         first_of [] c = c
         first_of (f ∷ fs) c = inl c
     more (e ∷ es) c = c
 
 -- all of the effects came about, and then there was no memory
 pub plays_stop : (es : List Effect) (a b : Stage) → Plays es a b → Stops es a b
-plays_stop es a b p = record { first = es; rest = []; split = sym (append-nil es); mid = point b; plays = p; cut = refl }
+plays_stop es a b p = record { first = es; rest = []; split = sym (append-nil es); mid = stage_point b; plays = p; cut = refl }
 
 -- effects after effects, which end or stop
 pub ends_then : (es fs : List Effect) (a m b : Stage) {A E : Type 0} (r : Result A E) → StageKeeps a m → Plays es a m → PlaysOrStops r fs m b → PlaysOrStops r (es ++ fs) a b

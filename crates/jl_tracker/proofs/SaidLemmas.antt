@@ -8,17 +8,17 @@ use Rattle.jl_tracker.specs.declared.line.Kind.{Kind}
 use Rattle.jl_tracker.specs.declared.line.Kind.TheVariants as kind
 use Rattle.jl_tracker.specs.declared.line.Command.{Command}
 use Rattle.jl_tracker.specs.declared.line.Command.TheVariants as command
-use Rattle.jl_tracker.specs.TrackerLines.{LineView, registers, unregisters, may_unlink, probes, word_of, IsNameOf, is_named, said_of, command_word, Says, IsTrackerLine}
+use Rattle.jl_tracker.specs.TrackerLines.{LineView, registers, unregisters, may_unlink, probes, word_of, IsNameOfKind, is_named, said_of, command_word, Says, IsTrackerLine}
 use Rattle.jl_tracker.proofs.SpelledLemmas.{is_spelled-sound, is_spelled-complete}
 
 -- a name that was tested
-pub is_named-sound : (k : Kind) (name : List ℕ) → IsUtf8 name → is_named k name ≡ true → IsNameOf k name
+pub is_named-sound : (k : Kind) (name : List ℕ) → IsUtf8 name → is_named k name ≡ true → IsNameOfKind k name
 is_named-sound kind.File name utf8 h = (utf8, is_spelled-sound name h)
 is_named-sound kind.Folder name utf8 h = (utf8, is_spelled-sound name h)
 is_named-sound kind.Semlock name utf8 h = (utf8, λ e. true≢false (sym ((Decides-eqb (length name) 0).1 (ap length e)) ∙ not-true _ h))
 
 -- a name that may stand in a line passes the test
-pub is_named-complete : (k : Kind) (name : List ℕ) → IsNameOf k name → is_named k name ≡ true
+pub is_named-complete : (k : Kind) (name : List ℕ) → IsNameOfKind k name → is_named k name ≡ true
 is_named-complete kind.File name h = is_spelled-complete name h.1
 is_named-complete kind.Folder name h = is_spelled-complete name h.1
 is_named-complete kind.Semlock [] h = absurd (h.1 refl)
@@ -28,7 +28,7 @@ is_named-complete kind.Semlock (b ∷ bs) h = some
     some = grind (arith, nat_tests, common_steps)
 
 -- such a name is text
-pub name_utf8 : (k : Kind) (name : List ℕ) → IsNameOf k name → IsUtf8 name
+pub name_utf8 : (k : Kind) (name : List ℕ) → IsNameOfKind k name → IsUtf8 name
 name_utf8 kind.File name h = h.0
 name_utf8 kind.Folder name h = h.0
 name_utf8 kind.Semlock name h = h.0
@@ -50,7 +50,7 @@ word_of-injective kind.Semlock kind.Folder e = absurd (words_differ _ _ e refl)
 word_of-injective kind.Semlock kind.Semlock e = refl
 
 -- what a command says of a resource
-pub said_of-Says : (c : Command) (k : Kind) (name command word n : List ℕ) → command ≡ command_word c → word ≡ word_of k → n ≡ name → IsNameOf k name → Says command name word (said_of c k n)
+pub said_of-Says : (c : Command) (k : Kind) (name command word n : List ℕ) → command ≡ command_word c → word ≡ word_of k → n ≡ name → IsNameOfKind k name → Says command name word (said_of c k n)
 said_of-Says command.Register k name w word n e f g h = (e, f, g, h)
 said_of-Says command.Unregister k name w word n e f g h = (e, f, g, h)
 said_of-Says command.MaybeUnlink k name w word n e f g h = (e, f, g, h)
@@ -62,7 +62,7 @@ Says-command w name word (unregisters k n) h = inr (command.Unregister, h.0)
 Says-command w name word (may_unlink k n) h = inr (command.MaybeUnlink, h.0)
 Says-command w name word probes h = inl h
 
-pub Says-resource : (w name word : List ℕ) (said : LineView) → Says w name word said → w ≢ codes "PROBE" → (k : Kind) × (word ≡ word_of k) × IsNameOf k name
+pub Says-resource : (w name word : List ℕ) (said : LineView) → Says w name word said → w ≢ codes "PROBE" → (k : Kind) × (word ≡ word_of k) × IsNameOfKind k name
 Says-resource w name word (registers k n) h other = (k, h.1, h.3)
 Says-resource w name word (unregisters k n) h other = (k, h.1, h.3)
 Says-resource w name word (may_unlink k n) h other = (k, h.1, h.3)

@@ -7,7 +7,7 @@ use Rattle.jl_streams.specs.Views.{SourceView, SourceAnswers}
 use Rattle.jl_lines.specs.declared.reader.NextLine.{NextLine}
 use Rattle.jl_lines.specs.declared.reader.NextLine.TheVariants as next_line
 use Rattle.jl_lines.specs.Lines.{has_newline, first_line, behind_line, lines_of}
-use Rattle.jl_lines.specs.Steps.{ReaderView, waiting, is_long, KnowsEnd, Passes, Answers, LeftIs, NextStep}
+use Rattle.jl_lines.specs.Steps.{ReaderView, waiting, is_long, KnowsEnd, Passes, AnswersOver, LeftIs, NextStep}
 use Rattle.jl_lines.proofs.StepLemmas.{of_or}
 use Rattle.std.proofs.lemmas.Bool.Decides.{Decides-ltb}
 use Rattle.jl_tracker.specs.declared.following.Tracked.{Tracked}
@@ -15,10 +15,10 @@ use Rattle.jl_tracker.specs.declared.following.Tracked.TheVariants as tracked
 use Rattle.jl_tracker.specs.TrackerLines.{LineView}
 use Rattle.jl_tracker.specs.Counting.{CountsView, no_counts}
 use Rattle.jl_tracker.specs.Effects.{reports_bad, IsLineReading, line_effects, after_read, effects_from, counts_after, end_effects}
-use Rattle.jl_tracker.specs.Stages.{Stage, StageKeeps, point}
+use Rattle.jl_tracker.specs.Stages.{Stage, StageKeeps, stage_point}
 use Rattle.jl_tracker.specs.Plays.{Plays, PlaysAt, Stops}
 use Rattle.jl_tracker.specs.Turns.{HasPaths, Handles, HandlesSome, Concludes}
-use Rattle.jl_tracker.specs.Tracking.{Seen, SeenAll, Going, Tracks, TracksSome}
+use Rattle.jl_tracker.specs.Tracking.{LinesSeen, SeenAll, Going, Tracks, TracksSome}
 use Rattle.jl_tracker.proofs.PlayLemmas.{plays_trans, plays_stops, plays_stop}
 use Rattle.jl_tracker.proofs.GoingLemmas.{line_split, seen_line, seen_last, seen_either, readings_push, counts_push, effects_push, line_reading}
 use Rattle.jl_tracker.proofs.HeldLemmas.{read_paths}
@@ -33,7 +33,7 @@ record Turn (number : ℕ) (line : List ℕ) (old new : CountsView) (a b : Stage
 
 -- the tracker goes on with one more line
 go_line : (source : SourceView) (behind behind' : List ℕ) (a b c : Stage) (reader reader' : ReaderView) (old new : CountsView) (line : List ℕ) → (going : Going source behind a b reader old)
-    → (source.told → reader'.ended ≡ false → Seen (going.lines ++ line ∷ []) source.left behind') → (source.told → reader'.ended ≡ true → SeenAll (going.lines ++ line ∷ []) source.left behind')
+    → (source.told → reader'.ended ≡ false → LinesSeen (going.lines ++ line ∷ []) source.left behind') → (source.told → reader'.ended ≡ true → SeenAll (going.lines ++ line ∷ []) source.left behind')
     → (source.told → reader'.taken + length behind' ≡ length source.left + length (waiting reader')) → StageKeeps a b → reader'.lines ≡ reader.lines + 1 → reader'.long ≡ false → reader'.limit ≡ reader.limit → Turn (reader.lines + 1) line old new b c → Going source behind' a c reader' new
 go_line source behind behind' a b c reader reader' old new line going seen whole taken keeps number short limit turn = record {
   lines = going.lines ++ line ∷ [];
@@ -120,7 +120,7 @@ goes_on source from to a b c reader reader' old new answer st keeps going over s
         (λ t. taken_on source.left step.got from.left to.left (waiting reader) (waiting reader') reader.taken reader'.taken step.taken_is (took (st t)) (going.taken_is t))
         keeps (passes.lines_is ∙ passes.number_is) passes.long_is step.limit_is turn
 
-    go : (answer : NextLine) → (reader.ended ≡ true → answer ≡ next_line.End) → (from.told → LeftIs answer step.got from to) → Answers reader reader' (waiting reader ++ step.got) answer → Handles answer old new b c → Going source (waiting reader' ++ to.left) a c reader' new
+    go : (answer : NextLine) → (reader.ended ≡ true → answer ≡ next_line.End) → (from.told → LeftIs answer step.got from to) → AnswersOver reader reader' (waiting reader ++ step.got) answer → Handles answer old new b c → Going source (waiting reader' ++ to.left) a c reader' new
     go (next_line.Line number body) over took h turn =
         let short : nat_lt MOST_LINE_BYTES (length (first_line (waiting reader ++ step.got))) ≡ false = subst (λ m. nat_lt m (length (first_line (waiting reader ++ step.got))) ≡ false) going.limit_is (of_or reader.long _ h.1).1 in
         one number (still_going reader (next_line.Line number body) over (λ e. cc)) h.0 h.2 took
@@ -147,11 +147,11 @@ goes_on source from to a b c reader reader' old new answer st keeps going over s
     go next_line.NoMemory over took h turn = absurd turn
 
 -- the bytes behind the lines
-seen_rest : (lines : List (List ℕ)) (left w got left₁ left₂ : List ℕ) → Seen lines left (w ++ left₁) → left₁ ≡ got ++ left₂ → Seen lines left ((w ++ got) ++ left₂)
-seen_rest lines left w got left₁ left₂ s e = subst (λ l. Seen lines left l) (ap (λ l. w ++ l) e ∙ sym (append_assoc w got left₂)) s
+seen_rest : (lines : List (List ℕ)) (left w got left₁ left₂ : List ℕ) → LinesSeen lines left (w ++ left₁) → left₁ ≡ got ++ left₂ → LinesSeen lines left ((w ++ got) ++ left₂)
+seen_rest lines left w got left₁ left₂ s e = subst (λ l. LinesSeen lines left l) (ap (λ l. w ++ l) e ∙ sym (append_assoc w got left₂)) s
 
 -- nothing stands behind the lines
-seen_all : (lines : List (List ℕ)) (left w got left₁ left₂ : List ℕ) → Seen lines left (w ++ left₁) → left₁ ≡ got ++ left₂ → w ++ got ≡ [] → left₂ ≡ [] → lines ≡ lines_of left
+seen_all : (lines : List (List ℕ)) (left w got left₁ left₂ : List ℕ) → LinesSeen lines left (w ++ left₁) → left₁ ≡ got ++ left₂ → w ++ got ≡ [] → left₂ ≡ [] → lines ≡ lines_of left
 seen_all lines left w got left₁ left₂ s e none end =
     let r = seen_rest lines left w got left₁ left₂ s e in
     let all : left ≡ r.input = r.left_is ∙ (λ i. r.input ++ (none i ++ end i)) ∙ append-nil r.input in
@@ -183,7 +183,7 @@ concludes source from to a b c reader reader' old answer number end next st keep
     bytes = waiting reader ++ step.got
 
     -- the bytes behind the lines, where the end wasn't met before
-    rest : reader.ended ≡ false → source.told → from.left ≡ step.got ++ to.left → Seen going.lines source.left ((waiting reader ++ step.got) ++ to.left)
+    rest : reader.ended ≡ false → source.told → from.left ≡ step.got ++ to.left → LinesSeen going.lines source.left ((waiting reader ++ step.got) ++ to.left)
     rest on t took = seen_rest going.lines source.left (waiting reader) step.got from.left to.left (going.seen t on) took
 
     -- where the end was met before, the source had nothing left
@@ -209,11 +209,11 @@ concludes source from to a b c reader reader' old answer number end next st keep
         omega (arith, going.taken_is t, last, all, step.taken_is, step.most, length-append (waiting reader) from.left)
 
     -- one more line was seen
-    line_seen : (number : ℕ) → reader.ended ≡ false → Passes reader reader' bytes number → 0 < length bytes → source.told → from.left ≡ step.got ++ to.left → Seen (going.lines ++ first_line bytes ∷ []) source.left (waiting reader' ++ to.left) ⊎ SeenAll (going.lines ++ first_line bytes ∷ []) source.left (waiting reader' ++ to.left)
+    line_seen : (number : ℕ) → reader.ended ≡ false → Passes reader reader' bytes number → 0 < length bytes → source.told → from.left ≡ step.got ++ to.left → LinesSeen (going.lines ++ first_line bytes ∷ []) source.left (waiting reader' ++ to.left) ⊎ SeenAll (going.lines ++ first_line bytes ∷ []) source.left (waiting reader' ++ to.left)
     line_seen number on passes some t took =
         seen_either going.lines source.left (waiting reader) step.got from.left to.left (waiting reader') (going.seen t on) took some (last_left reader reader' from to bytes on passes.ended_is (step.end_is (st t))) passes.waiting_is
 
-    cut : (answer : NextLine) → (reader.ended ≡ true → answer ≡ next_line.End) → (from.told → LeftIs answer step.got from to) → Answers reader reader' (waiting reader ++ step.got) answer → HandlesSome answer old b c → TracksSome source to a c
+    cut : (answer : NextLine) → (reader.ended ≡ true → answer ≡ next_line.End) → (from.told → LeftIs answer step.got from to) → AnswersOver reader reader' (waiting reader ++ step.got) answer → HandlesSome answer old b c → TracksSome source to a c
     cut (next_line.Line number body) over took h turn =
         let on = still_going reader (next_line.Line number body) over (λ e. cc) in
         let short : nat_lt MOST_LINE_BYTES (length (first_line (waiting reader ++ step.got))) ≡ false = subst (λ m. nat_lt m (length (first_line (waiting reader ++ step.got))) ≡ false) going.limit_is (of_or reader.long _ h.1).1 in record {
@@ -256,13 +256,13 @@ concludes source from to a b c reader reader' old answer number end next st keep
       open_line = waiting reader ++ step.got;
       read = going.read;
       seen = λ t. inl (rest (still_going reader next_line.NoMemory over (λ e. cc)) t (took (st t)));
-      stops = inl (plays_stop (effects_from 1 no_counts going.readings) a c (subst (λ x. PlaysAt a (effects_from 1 no_counts going.readings) (point a) x) (sym turn) going.plays));
+      stops = inl (plays_stop (effects_from 1 no_counts going.readings) a c (subst (λ x. PlaysAt a (effects_from 1 no_counts going.readings) (stage_point a) x) (sym turn) going.plays));
     }
 
     go : (end : Tracked) → Concludes end number answer old b c → Tracks source to a c end
     go tracked.Ended turn =
         let took = subst (λ x. from.told → LeftIs x step.got from to) turn.0 step.left_is in
-        let h = subst (λ x. Answers reader reader' (waiting reader ++ step.got) x) turn.0 step.answer_is in record {
+        let h = subst (λ x. AnswersOver reader reader' (waiting reader ++ step.got) x) turn.0 step.answer_is in record {
           lines = going.lines;
           readings = going.readings;
           read = going.read;
@@ -273,7 +273,7 @@ concludes source from to a b c reader reader' old answer number end next st keep
         }
     go tracked.ReadFault turn =
         let took = subst (λ x. from.told → LeftIs x step.got from to) turn.0 step.left_is in
-        let h = subst (λ x. Answers reader reader' (waiting reader ++ step.got) x) turn.0 step.answer_is in
+        let h = subst (λ x. AnswersOver reader reader' (waiting reader ++ step.got) x) turn.0 step.answer_is in
         let on = still_going reader answer over (λ e. let is = turn.0 in cc) in record {
           lines = going.lines;
           readings = going.readings;
@@ -281,11 +281,11 @@ concludes source from to a b c reader reader' old answer number end next st keep
           read = going.read;
           none = h.1;
           seen = λ t. rest on t (took (st t));
-          plays = subst (λ x. PlaysAt a (effects_from 1 no_counts going.readings) (point a) x) (sym turn.1) going.plays;
+          plays = subst (λ x. PlaysAt a (effects_from 1 no_counts going.readings) (stage_point a) x) (sym turn.1) going.plays;
         }
     go (tracked.TooMuch line) turn =
         let took = subst (λ x. from.told → LeftIs x step.got from to) turn.0 step.left_is in
-        let h = subst (λ x. Answers reader reader' (waiting reader ++ step.got) x) turn.0 step.answer_is in
+        let h = subst (λ x. AnswersOver reader reader' (waiting reader ++ step.got) x) turn.0 step.answer_is in
         let on = still_going reader answer over (λ e. let is = turn.0 in cc) in record {
           lines = going.lines;
           readings = going.readings;
@@ -295,7 +295,7 @@ concludes source from to a b c reader reader' old answer number end next st keep
           seen = λ t. ((took (st t)).0, seen_rest going.lines source.left (waiting reader) step.got from.left ((took (st t)).0 ∷ to.left) (going.seen t on) (took (st t)).1);
           much = λ t. taken_much source.left step.got from.left to.left (waiting reader) (took (st t)).0 reader.taken reader'.taken step.taken_is h.3 (took (st t)).1 (going.taken_is t);
           number_is = omega (arith, turn.2, next, h.0.lines_is, going.number_is);
-          plays = subst (λ x. PlaysAt a (effects_from 1 no_counts going.readings) (point a) x) (sym turn.1) going.plays;
+          plays = subst (λ x. PlaysAt a (effects_from 1 no_counts going.readings) (stage_point a) x) (sym turn.1) going.plays;
         }
     go tracked.NoMemory turn = cut answer over step.left_is step.answer_is turn
 
@@ -335,7 +335,7 @@ pub smaller : (from to : SourceView) (reader reader' : ReaderView) (answer : Nex
     → (MOST_INPUT_BYTES - reader'.taken) + length (waiting reader') < (MOST_INPUT_BYTES - reader.taken) + length (waiting reader)
 smaller from to reader reader' answer old new a b short limit step h = go answer step.answer_is h
   where
-    go : (answer : NextLine) → Answers reader reader' (waiting reader ++ step.got) answer → Handles answer old new a b → (MOST_INPUT_BYTES - reader'.taken) + length (waiting reader') < (MOST_INPUT_BYTES - reader.taken) + length (waiting reader)
+    go : (answer : NextLine) → AnswersOver reader reader' (waiting reader ++ step.got) answer → Handles answer old new a b → (MOST_INPUT_BYTES - reader'.taken) + length (waiting reader') < (MOST_INPUT_BYTES - reader.taken) + length (waiting reader)
     go (next_line.Line number body) h turn = less_left (waiting reader ++ step.got) (waiting reader) step.got (waiting reader') reader.taken reader'.taken refl h.2 h.0.waiting_is step.taken_is step.most
     go (next_line.TooLong number) h turn =
         less_left (waiting reader ++ step.got) (waiting reader) step.got (waiting reader') reader.taken reader'.taken refl (some_bytes (waiting reader ++ step.got) (omega (arith, over_of reader (waiting reader ++ step.got) short limit h.1))) h.0.waiting_is step.taken_is step.most

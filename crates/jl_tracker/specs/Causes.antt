@@ -7,15 +7,15 @@ use Rattle.jl_folder.specs.Calls.{IsParent}
 use Rattle.jl_tracker.specs.Stages.{FolderPoint}
 
 -- each file that stood in the folder at first was away at some state of these moves
-abbrev pub WentAway : State → Trace → PathView → Type 0
-WentAway s moves p = (part : List ℕ) → part ≢ [] → is_file s (p ++ part ∷ []) ≡ true → AtSome s moves (λ x. is_file x (p ++ part ∷ []) ≡ false)
+abbrev pub FilesWentAway : State → Trace → PathView → Type 0
+FilesWentAway s moves p = (part : List ℕ) → part ≢ [] → is_file s (p ++ part ∷ []) ≡ true → AtSome s moves (λ x. is_file x (p ++ part ∷ []) ≡ false)
 
 -- once each file that stood in it at first had been away, it was there, and still held something, or is the current folder or the topmost
 pub record StillHolds (p : PathView) (old new : FolderPoint) : Type 0 where
   pub before : Trace
   pub later : Trace
   pub split : since old.history new.history ≡ before ++ later
-  pub away : WentAway (now old.history) before p
+  pub away : FilesWentAway (now old.history) before p
   pub there : is_folder (run (now old.history) before) p ≡ true
   pub kept : IsParent (run (now old.history) before) p
 

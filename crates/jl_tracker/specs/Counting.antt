@@ -40,11 +40,11 @@ after_line (may_unlink k name) v = with_entries k (released name (entries_at k v
 after_line probes v = v
 
 -- what a line does
-abbrev pub answer_of : LineView → CountsView → Step
-answer_of (registers k name) v = step.Counted (more_of (count_in k name v))
-answer_of (unregisters k name) v = drop_answer (count_in k name v)
-answer_of (may_unlink k name) v = release_answer (count_in k name v)
-answer_of probes v = step.Nothing
+abbrev pub counts_answer : LineView → CountsView → Step
+counts_answer (registers k name) v = step.Counted (more_of (count_in k name v))
+counts_answer (unregisters k name) v = drop_answer (count_in k name v)
+counts_answer (may_unlink k name) v = release_answer (count_in k name v)
+counts_answer probes v = step.Nothing
 
 -- the line registers a resource that isn't counted
 abbrev pub IsNew : LineView → CountsView → Type 0
@@ -55,11 +55,11 @@ IsNew probes v = ⊥
 
 -- the answer and the counts after a line are those of the definition; for a new resource there may be no memory, and then nothing changes
 abbrev pub Applies : LineView → CountsView → CountsView → Step → Type 0
-Applies line old new (step.Counted n) = (step.Counted n ≡ answer_of line old) × (new ≡ after_line line old)
-Applies line old new step.Dropped = (step.Dropped ≡ answer_of line old) × (new ≡ after_line line old)
-Applies line old new step.Remove = (step.Remove ≡ answer_of line old) × (new ≡ after_line line old)
-Applies line old new step.Unknown = (step.Unknown ≡ answer_of line old) × (new ≡ after_line line old) × (new ≡ old)
-Applies line old new step.Nothing = (step.Nothing ≡ answer_of line old) × (new ≡ after_line line old)
+Applies line old new (step.Counted n) = (step.Counted n ≡ counts_answer line old) × (new ≡ after_line line old)
+Applies line old new step.Dropped = (step.Dropped ≡ counts_answer line old) × (new ≡ after_line line old)
+Applies line old new step.Remove = (step.Remove ≡ counts_answer line old) × (new ≡ after_line line old)
+Applies line old new step.Unknown = (step.Unknown ≡ counts_answer line old) × (new ≡ after_line line old) × (new ≡ old)
+Applies line old new step.Nothing = (step.Nothing ≡ counts_answer line old) × (new ≡ after_line line old)
 Applies line old new step.NoMemory = IsNew line old × (new ≡ old)
 
 -- the entries but for the first
@@ -76,6 +76,6 @@ abbrev pub without_first : CountsView → CountsView
 without_first v = cond (nat_eq (length v.files) 0) (cond (nat_eq (length v.semlocks) 0) (record v { folders = tail_of v.folders }) (record v { semlocks = tail_of v.semlocks })) (record v { files = tail_of v.files })
 
 -- the first of what is left was taken out, or nothing is left
-abbrev pub Finishes : CountsView → CountsView → Option Leaked → Type 0
-Finishes old new None = (left_of old ≡ []) × (new ≡ old)
-Finishes old new (Some leaked) = (left_of old ≡ leaked ∷ left_of new) × (new ≡ without_first old)
+abbrev pub TakesLeaked : CountsView → CountsView → Option Leaked → Type 0
+TakesLeaked old new None = (left_of old ≡ []) × (new ≡ old)
+TakesLeaked old new (Some leaked) = (left_of old ≡ leaked ∷ left_of new) × (new ≡ without_first old)

@@ -9,7 +9,7 @@ use Rattle.jl_tracker.specs.declared.table.Step.{Step}
 use Rattle.jl_tracker.specs.declared.table.Step.TheVariants as step
 use Rattle.jl_tracker.specs.declared.counts.Leaked.{Leaked}
 use Rattle.jl_tracker.specs.TrackerLines.{LineView, registers, unregisters, may_unlink, probes, word_of, IsTrackerLine}
-use Rattle.jl_tracker.specs.Counting.{CountsView, answer_of, after_line, left_of}
+use Rattle.jl_tracker.specs.Counting.{CountsView, counts_answer, after_line, left_of}
 
 -- a report, or the removal of a resource
 pub data Effect : Type 0 where
@@ -37,7 +37,7 @@ effects_of probes s = []
 -- the effects of a line that was read, or of a bad one, by its number and the counts before it
 abbrev pub line_effects : ℕ → Option LineView → CountsView → List Effect
 line_effects number None v = reports_bad number ∷ []
-line_effects number (Some said) v = effects_of said (answer_of said v)
+line_effects number (Some said) v = effects_of said (counts_answer said v)
 
 -- the counts after it
 abbrev pub after_read : Option LineView → CountsView → CountsView

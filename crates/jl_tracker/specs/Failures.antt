@@ -6,10 +6,10 @@ use Rattle.jl_folder.specs.State.{AtSome, is_file, is_folder, now, since}
 use Rattle.jl_folder.specs.Calls.{Call}
 use Rattle.jl_tracker.specs.declared.line.Kind.{Kind}
 use Rattle.jl_tracker.specs.declared.line.Kind.TheVariants as kind
-use Rattle.jl_tracker.specs.Stages.{Stage, FolderPoint, Point, view_at}
+use Rattle.jl_tracker.specs.Stages.{Stage, FolderPoint, StagePoint, view_at}
 use Rattle.jl_tracker.specs.Causes.{StillHolds}
 use Rattle.jl_tracker.specs.Effects.{Effect, removes}
-use Rattle.jl_tracker.specs.Plays.{Does}
+use Rattle.jl_tracker.specs.Plays.{ComesAbout}
 
 -- others moved, and then the path named no file; nothing was taken away
 abbrev pub FindsNoFile : PathView → FolderPoint → FolderPoint → Type 0
@@ -37,9 +37,9 @@ FailsByFault (removes kind.Folder name) false old new = Rose old.faults new.faul
 FailsByFault _ done old new = ⊥
 
 -- the effects come about, and each removal that failed did so for what was found, but for this many, in each of which the count of faults rose
-abbrev pub PlaysBut : Stage → ℕ → List Effect → Point → Point → Type 0
+abbrev pub PlaysBut : Stage → ℕ → List Effect → StagePoint → StagePoint → Type 0
 PlaysBut s n [] a b = (n ≡ 0) × (b ≡ a)
-PlaysBut s n (e ∷ es) a b = (done : Bool) × (mid : Point) × Does s e done a mid × ((GoesAsFound e done a.folder mid.folder × PlaysBut s n es mid b) ⊎ ((k : ℕ) × (n ≡ k + 1) × FailsByFault e done a.folder mid.folder × PlaysBut s k es mid b))
+PlaysBut s n (e ∷ es) a b = (done : Bool) × (mid : StagePoint) × ComesAbout s e done a mid × ((GoesAsFound e done a.folder mid.folder × PlaysBut s n es mid b) ⊎ ((k : ℕ) × (n ≡ k + 1) × FailsByFault e done a.folder mid.folder × PlaysBut s k es mid b))
 
 -- a count rose by this many at least, or stands at its last value
 abbrev pub RoseBy : ℕ → ℕ → ℕ → Type 0

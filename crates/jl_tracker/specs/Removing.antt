@@ -74,14 +74,14 @@ pub record TriedFolder (p : PathView) (done : Bool) (old new : FolderPoint) : Ty
   pub last : TriedDir p done emptied new
 
 -- one removal of a folder, which is done or can't be
-abbrev pub RemovesFolder : PathView → Bool → FolderPoint → FolderPoint → Type 0
-RemovesFolder p true old new = TriedFolder p true old new
-RemovesFolder p false old new = NotListed p old new ⊎ TriedFolder p false old new
+abbrev pub RemovesListed : PathView → Bool → FolderPoint → FolderPoint → Type 0
+RemovesListed p true old new = TriedFolder p true old new
+RemovesListed p false old new = NotListed p old new ⊎ TriedFolder p false old new
 
 -- one removal of a resource; a semaphore isn't touched
 abbrev pub Removal : Kind → List ℕ → Bool → FolderPoint → FolderPoint → Type 0
 Removal kind.File name done old new = TriedFile (path_of name) done old new
-Removal kind.Folder name done old new = RemovesFolder (path_of name) done old new
+Removal kind.Folder name done old new = RemovesListed (path_of name) done old new
 Removal kind.Semlock name done old new = (done ≡ false) × (new ≡ old)
 
 -- others moved, and this own move was made or none; no call failed

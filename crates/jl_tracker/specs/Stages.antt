@@ -36,12 +36,12 @@ pub record SinkPoint : Type 0 where
   pub faults : ℕ
 
 -- where both stand
-pub record Point : Type 0 where
+pub record StagePoint : Type 0 where
   pub folder : FolderPoint
   pub err : SinkPoint
 
 abbrev pub sink_point : SinkView → SinkPoint
 sink_point v = record { written = v.written; faults = v.faults }
 
-abbrev pub point : Stage → Point
-point s = record { folder = folder_point s.folder; err = sink_point s.err }
+abbrev pub stage_point : Stage → StagePoint
+stage_point s = record { folder = folder_point s.folder; err = sink_point s.err }

@@ -30,10 +30,10 @@ word_of kind.Folder = codes "folder"
 word_of kind.Semlock = codes "semlock"
 
 -- a name is text and not empty; that of a file or a folder is the text of a path
-abbrev pub IsNameOf : Kind → List ℕ → Type 0
-IsNameOf kind.File name = IsUtf8 name × IsPathText name
-IsNameOf kind.Folder name = IsUtf8 name × IsPathText name
-IsNameOf kind.Semlock name = IsUtf8 name × (name ≢ [])
+abbrev pub IsNameOfKind : Kind → List ℕ → Type 0
+IsNameOfKind kind.File name = IsUtf8 name × IsPathText name
+IsNameOfKind kind.Folder name = IsUtf8 name × IsPathText name
+IsNameOfKind kind.Semlock name = IsUtf8 name × (name ≢ [])
 
 -- what is tested of a name that is text
 abbrev pub is_named : Kind → List ℕ → Bool
@@ -55,9 +55,9 @@ command_word command.MaybeUnlink = codes "MAYBE_UNLINK"
 
 -- what the parts of a line say; those of a probe may be anything
 abbrev pub Says : List ℕ → List ℕ → List ℕ → LineView → Type 0
-Says command name word (registers k n) = (command ≡ codes "REGISTER") × (word ≡ word_of k) × (n ≡ name) × IsNameOf k name
-Says command name word (unregisters k n) = (command ≡ codes "UNREGISTER") × (word ≡ word_of k) × (n ≡ name) × IsNameOf k name
-Says command name word (may_unlink k n) = (command ≡ codes "MAYBE_UNLINK") × (word ≡ word_of k) × (n ≡ name) × IsNameOf k name
+Says command name word (registers k n) = (command ≡ codes "REGISTER") × (word ≡ word_of k) × (n ≡ name) × IsNameOfKind k name
+Says command name word (unregisters k n) = (command ≡ codes "UNREGISTER") × (word ≡ word_of k) × (n ≡ name) × IsNameOfKind k name
+Says command name word (may_unlink k n) = (command ≡ codes "MAYBE_UNLINK") × (word ≡ word_of k) × (n ≡ name) × IsNameOfKind k name
 Says command name word probes = command ≡ codes "PROBE"
 
 -- the bytes, without the blanks at both ends, are a command, a name and a kind between colons

@@ -18,7 +18,7 @@ abbrev pub EndsLines : List ℕ → Type 0
 EndsLines input = (more : List ℕ) → lines_of (input ++ more) ≡ lines_of input ++ lines_of more
 
 -- the lines are those of the first bytes that were left, each with its newline; `behind` stands behind them
-pub record Seen (lines : List (List ℕ)) (left behind : List ℕ) : Type 0 where
+pub record LinesSeen (lines : List (List ℕ)) (left behind : List ℕ) : Type 0 where
   pub input : List ℕ
   pub left_is : left ≡ input ++ behind
   pub lines_is : lines ≡ lines_of input
@@ -45,7 +45,7 @@ pub record TracksFirst (source rest : SourceView) (old new : Stage) : Type 0 whe
   pub open_line : List ℕ
   pub read : AreReadings lines readings
   pub none : has_newline open_line ≡ false
-  pub seen : source.told → Seen lines source.left (open_line ++ rest.left)
+  pub seen : source.told → LinesSeen lines source.left (open_line ++ rest.left)
   pub plays : Plays (effects_from 1 no_counts readings) old new
 
 -- the same; as many bytes were taken as are taken at most, and then one more; the number is that of the line behind those that were read
@@ -55,7 +55,7 @@ pub record TracksMuch (source rest : SourceView) (old new : Stage) (number : ℕ
   pub open_line : List ℕ
   pub read : AreReadings lines readings
   pub none : has_newline open_line ≡ false
-  pub seen : source.told → (byte : ℕ) × Seen lines source.left (open_line ++ byte ∷ rest.left)
+  pub seen : source.told → (byte : ℕ) × LinesSeen lines source.left (open_line ++ byte ∷ rest.left)
   pub much : source.told → MOST_INPUT_BYTES + (1 + length rest.left) ≡ length source.left
   pub number_is : number ≡ 1 + length readings
   pub plays : Plays (effects_from 1 no_counts readings) old new
@@ -66,7 +66,7 @@ pub record TracksSome (source rest : SourceView) (old new : Stage) : Type 0 wher
   pub readings : List (Option LineView)
   pub open_line : List ℕ
   pub read : AreReadings lines readings
-  pub seen : source.told → Seen lines source.left (open_line ++ rest.left) ⊎ SeenAll lines source.left (open_line ++ rest.left)
+  pub seen : source.told → LinesSeen lines source.left (open_line ++ rest.left) ⊎ SeenAll lines source.left (open_line ++ rest.left)
   pub stops : Stops (effects_from 1 no_counts readings) old new ⊎ ((source.told → SeenAll lines source.left rest.left) × Stops (effects_from 1 no_counts readings ++ end_effects (counts_after no_counts readings)) old new)
 
 -- what stands after each answer
@@ -82,7 +82,7 @@ pub record Going (source : SourceView) (behind : List ℕ) (old new : Stage) (re
   pub lines : List (List ℕ)
   pub readings : List (Option LineView)
   pub read : AreReadings lines readings
-  pub seen : source.told → reader.ended ≡ false → Seen lines source.left behind
+  pub seen : source.told → reader.ended ≡ false → LinesSeen lines source.left behind
   pub whole : source.told → reader.ended ≡ true → SeenAll lines source.left behind
   pub taken_is : source.told → reader.taken + length behind ≡ length source.left + length (waiting reader)
   pub number_is : reader.lines ≡ length readings

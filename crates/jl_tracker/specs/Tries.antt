@@ -9,7 +9,7 @@ use Rattle.jl_tracker.specs.declared.line.Kind.TheVariants as kind
 use Rattle.jl_tracker.specs.declared.removing.Tried.{Tried}
 use Rattle.jl_tracker.specs.declared.removing.Tried.TheVariants as tried
 use Rattle.jl_tracker.specs.Stages.{FolderPoint}
-use Rattle.jl_tracker.specs.Removing.{TriedFile, TriedDir, TriedName, TriedNames, Pauses, RemovesFolder, MayMove, CutFolder, Removal, CutRemoval}
+use Rattle.jl_tracker.specs.Removing.{TriedFile, TriedDir, TriedName, TriedNames, Pauses, RemovesListed, MayMove, CutFolder, Removal, CutRemoval}
 
 abbrev pub FileTry : PathView → Result Tried AllocError → FolderPoint → FolderPoint → Type 0
 FileTry p (Ok tried.Gone) old new = TriedFile p true old new
@@ -59,8 +59,8 @@ ListedTry p names (Err e) old new = CutNames p names old new ⊎ CutLast p names
 
 -- a removal of a folder, or what want of memory leaves of it
 abbrev pub RemovesTry : PathView → Result Tried AllocError → FolderPoint → FolderPoint → Type 0
-RemovesTry p (Ok tried.Gone) old new = RemovesFolder p true old new
-RemovesTry p (Ok tried.Kept) old new = RemovesFolder p false old new
+RemovesTry p (Ok tried.Gone) old new = RemovesListed p true old new
+RemovesTry p (Ok tried.Kept) old new = RemovesListed p false old new
 RemovesTry p (Err e) old new = Pauses old new ⊎ CutFolder p old new
 
 -- a removal of a resource, or what want of memory leaves of it

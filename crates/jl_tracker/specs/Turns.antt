@@ -11,7 +11,7 @@ use Rattle.jl_tracker.specs.TrackerLines.{LineView, registers, unregisters, may_
 use Rattle.jl_tracker.specs.Entries.{Entries}
 use Rattle.jl_tracker.specs.Counting.{CountsView}
 use Rattle.jl_tracker.specs.Effects.{IsReading, after_read, line_effects, reports_bad, end_effects}
-use Rattle.jl_tracker.specs.Stages.{Stage, point}
+use Rattle.jl_tracker.specs.Stages.{Stage, stage_point}
 use Rattle.jl_tracker.specs.Plays.{Plays, Stops}
 use Rattle.jl_tracker.specs.Tries.{IsRemovable}
 
@@ -67,11 +67,11 @@ HandlesSome (next_line.TooLong number) old before after = Stops (reports_bad num
 HandlesSome next_line.End old before after = Stops (end_effects old) before after
 HandlesSome next_line.TooMuch old before after = ⊥
 HandlesSome next_line.ReadFault old before after = ⊥
-HandlesSome next_line.NoMemory old before after = point after ≡ point before
+HandlesSome next_line.NoMemory old before after = stage_point after ≡ stage_point before
 
 -- what follows on an answer, if the tracker ends; the number is that of the line that is read next
 abbrev pub Concludes : Tracked → ℕ → NextLine → CountsView → Stage → Stage → Type 0
 Concludes tracked.Ended number answer old before after = (answer ≡ next_line.End) × Plays (end_effects old) before after
-Concludes tracked.ReadFault number answer old before after = (answer ≡ next_line.ReadFault) × (point after ≡ point before)
-Concludes (tracked.TooMuch line) number answer old before after = (answer ≡ next_line.TooMuch) × (point after ≡ point before) × (line ≡ number)
+Concludes tracked.ReadFault number answer old before after = (answer ≡ next_line.ReadFault) × (stage_point after ≡ stage_point before)
+Concludes (tracked.TooMuch line) number answer old before after = (answer ≡ next_line.TooMuch) × (stage_point after ≡ stage_point before) × (line ≡ number)
 Concludes tracked.NoMemory number answer old before after = HandlesSome answer old before after

@@ -1,7 +1,7 @@
 // The counts of all resources.
 ghost use Rattle.std.specs.Prelude.{◌≡◌};
 ghost use Rattle.jl_tracker.specs.TrackerLines.{view_of, registers, unregisters, may_unlink};
-ghost use Rattle.jl_tracker.specs.Counting.{no_counts, Applies, Finishes};
+ghost use Rattle.jl_tracker.specs.Counting.{no_counts, Applies, TakesLeaked};
 
 use crate::line::{Kind, Line};
 use crate::table::{Step, Table};
@@ -89,7 +89,7 @@ impl Counts {
     /// Takes out the next resource that is left: files first, then semaphores, then folders, each
     /// kind in order of registration.
     pub fn finish(&mut self) -> Option<Leaked>
-        ensures { Finishes self.old self.new result }
+        ensures { TakesLeaked self.old self.new result }
     {
         if let Some(name) = self.files.take_first() {
             return Some(Leaked {

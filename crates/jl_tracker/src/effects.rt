@@ -1,7 +1,7 @@
 // Brings about what the lines ask for.
 ghost use Rattle.std.specs.Prelude.{◌≡◌, ◌∷◌, [], false, IsErr, MatchResult};
 ghost use Rattle.jl_tracker.specs.TrackerLines.{view_of};
-ghost use Rattle.jl_tracker.specs.Counting.{after_line, answer_of};
+ghost use Rattle.jl_tracker.specs.Counting.{after_line, counts_answer};
 ghost use Rattle.jl_tracker.specs.Effects.{removes, removal_text, step_effects, effects_of};
 ghost use Rattle.jl_streams.specs.Views.{SinkKeeps};
 ghost use Rattle.jl_tracker.specs.Plays.{Plays, Stops, PlaysOrStops, Wrote};
@@ -123,7 +123,7 @@ fn take_good<F: Folder, E: Sink>(
     ensures plays { let said = view_of line.now in
         let before = stage (F.view folder.old) (E.view err.old) in
         let after = stage (F.view folder.new) (E.view err.new) in
-        let effects = effects_of said (answer_of said counts.old) in
+        let effects = effects_of said (counts_answer said counts.old) in
         MatchResult result
         (λ done. (counts.new ≡ after_line said counts.old) × Plays effects before after)
         (λ e. Stops effects before after) }

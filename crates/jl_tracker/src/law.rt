@@ -5,8 +5,8 @@ ghost use Rattle.jl_tracker.specs.Causes.{HasCause};
 ghost use Rattle.jl_tracker.specs.Effects.{Effect};
 ghost use Rattle.jl_tracker.specs.Failures.{PlaysBut, RoseBy};
 ghost use Rattle.jl_tracker.specs.Plays.{PlaysAt};
-ghost use Rattle.jl_tracker.specs.Removing.{RemovesFolder};
-ghost use Rattle.jl_tracker.specs.Stages.{FolderPoint, Point, stage};
+ghost use Rattle.jl_tracker.specs.Removing.{RemovesListed};
+ghost use Rattle.jl_tracker.specs.Stages.{FolderPoint, StagePoint, stage};
 
 use jl_folder::Folder;
 use jl_streams::Sink;
@@ -16,7 +16,7 @@ use jl_streams::Sink;
 /// rose.
 pub fn folders_stay_for_a_cause()
     ensures { (path : PathView) (a b : FolderPoint)
-        → RemovesFolder path false a b
+        → RemovesListed path false a b
         → HasCause path a b }
 {}
 
@@ -24,7 +24,7 @@ pub fn folders_stay_for_a_cause()
 /// faults rose by, unless that stands at its last value; each other one that failed did so for what
 /// was found in the folder.
 pub fn removals_fail_by_counted_faults<F: Folder, E: Sink>()
-    ensures { (folder : F) (err : E) (effects : List Effect) (a b : Point)
+    ensures { (folder : F) (err : E) (effects : List Effect) (a b : StagePoint)
         → PlaysAt (stage (F.view folder) (E.view err)) effects a b
         → (F.view folder).told
         → (n : ℕ) × PlaysBut (stage (F.view folder) (E.view err)) n effects a b × RoseBy n

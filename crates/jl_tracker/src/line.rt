@@ -1,7 +1,7 @@
 // The lines that the tracker is sent.
 ghost use Rattle.std.specs.Prelude.{◌≡◌, ◌≢◌, MatchOption, MatchResult, IfOk, codes};
 ghost use Rattle.std.specs.Str.{bytes_eq};
-ghost use Rattle.jl_tracker.specs.TrackerLines.{LineView, IsTrackerLine, IsNameOf, Says, command_word, is_named, said_of, view_of, word_of};
+ghost use Rattle.jl_tracker.specs.TrackerLines.{LineView, IsTrackerLine, IsNameOfKind, Says, command_word, is_named, said_of, view_of, word_of};
 
 use crate::parts::{Parts, parts_of};
 use crate::paths::is_path_text;
@@ -98,8 +98,8 @@ fn is_named(kind: Kind, name: &str) -> bool
 }
 
 fn name_of(kind: Kind, name: &[u8]) -> Option<&str>
-    ensures { MatchOption result (¬ (IsNameOf kind name.now))
-        (λ text. (text.now ≡ name.now) × IsNameOf kind name.now) }
+    ensures { MatchOption result (¬ (IsNameOfKind kind name.now))
+        (λ text. (text.now ≡ name.now) × IsNameOfKind kind name.now) }
 {
     match str::from_utf8(name) {
         Ok(text) => {
@@ -115,8 +115,8 @@ fn name_of(kind: Kind, name: &[u8]) -> Option<&str>
 
 fn resource_of<'a>(word: &[u8], name: &'a [u8]) -> Option<Resource<'a>>
     ensures { MatchOption result
-        ((kind : Kind) → word.now ≡ word_of kind → ¬ (IsNameOf kind name.now))
-        (λ n. (word.now ≡ word_of n.kind) × (n.name.now ≡ name.now) × IsNameOf n.kind name.now) }
+        ((kind : Kind) → word.now ≡ word_of kind → ¬ (IsNameOfKind kind name.now))
+        (λ n. (word.now ≡ word_of n.kind) × (n.name.now ≡ name.now) × IsNameOfKind n.kind name.now) }
 {
     let Some(kind) = kind_of(word) else {
         return None;

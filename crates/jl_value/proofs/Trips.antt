@@ -28,7 +28,7 @@ use Rattle.jl_value.specs.declared.fault.ValueFault.TheVariants.{NotJson}
 use Rattle.jl_value.specs.Tree.{Tree, null, truth, whole, text, list, table, numbers, Items, no_items, item, Members, no_members, member, nesting, items_nesting, members_nesting}
 use Rattle.jl_value.specs.Canonical.{array_key, text_of, numbers_json, json_of, items_json, members_json}
 use Rattle.jl_value.specs.Reading.{Read, mapped, then', or_fault, wholes_in, walk, walk_items, walk_members, read_tree}
-use Rattle.jl_value.specs.Proper.{IsWhole, AreWhole, keys, IsProper, AreProper, HasProper}
+use Rattle.jl_value.specs.Proper.{FitsI64, AllFitI64, keys, IsProper, AreProper, HasProper}
 use Rattle.jl_value.proofs.Texts.{whole_text, text_is}
 
 abbrev whole_of : Option (grammar.Json × List Token) → Option json.Data
@@ -36,28 +36,28 @@ whole_of o = option_and_then of_json (option_and_then (λ p. grammar.if_last p.0
 
 -- ---- numbers
 
-mag_small : (z : ℤ) → IsWhole z → mag z < 2 ^ 63
+mag_small : (z : ℤ) → FitsI64 z → mag z < 2 ^ 63
 mag_small (pos n) h = h
 mag_small (negsuc n) h = h
 
-number_printable : (z : ℤ) → IsWhole z → IsNumber (number_text (of_integer z))
+number_printable : (z : ℤ) → FitsI64 z → IsNumber (number_text (of_integer z))
 number_printable z h = subst IsNumber (whole_text z) (IsNumber-signed_decimal z (mag_small z h))
 
-number_back : (z : ℤ) → IsWhole z → number_of (number_text (of_integer z)) ≡ Some (of_integer z)
+number_back : (z : ℤ) → FitsI64 z → number_of (number_text (of_integer z)) ≡ Some (of_integer z)
 number_back (pos n) h = number_of-decimal n (omega arith)
 number_back (negsuc n) h = number_of-negative n h
 
-as_whole : (z : ℤ) → IsWhole z → as_i64 (of_integer z) ≡ Some z
+as_whole : (z : ℤ) → FitsI64 z → as_i64 (of_integer z) ≡ Some z
 as_whole (pos n) h = rw (lt-ltb _ _ h)
 as_whole (negsuc n) h = refl
 
-wholes_back : (zs : List ℤ) → AreWhole zs → wholes_in (numbers_json zs) ≡ Some zs
+wholes_back : (zs : List ℤ) → AllFitI64 zs → wholes_in (numbers_json zs) ≡ Some zs
 wholes_back [] h = refl
 wholes_back (z ∷ zs) h = rw (as_whole z h.0, wholes_back zs h.1)
 
 -- ---- the tokens of the text
 
-numbers_have : (zs : List ℤ) → AreWhole zs → ItemsHaveNumbers (items_outline (numbers_json zs))
+numbers_have : (zs : List ℤ) → AllFitI64 zs → ItemsHaveNumbers (items_outline (numbers_json zs))
 numbers_have [] h = tt
 numbers_have (z ∷ zs) h = (number_printable z h.0, numbers_have zs h.1)
 
@@ -137,7 +137,7 @@ put_last (json.member l e found) k d rest s =
     let above : slice_cmp nat_cmp k l ≡ Greater = nat_list_cmp_total.antisymm k l ∙ ap ordering_reverse (below l (json_keys found) k rest s.0) in
     rw above (ap (json.member l e) (put_last found k d rest s.1))
 
-numbers_back : (zs : List ℤ) → AreWhole zs → of_items (items_outline (numbers_json zs)) ≡ Some (numbers_json zs)
+numbers_back : (zs : List ℤ) → AllFitI64 zs → of_items (items_outline (numbers_json zs)) ≡ Some (numbers_json zs)
 numbers_back [] h = refl
 numbers_back (z ∷ zs) h = rw (number_back z h.0, numbers_back zs h.1)
 

@@ -11,7 +11,7 @@ use Rattle.json.specs.Print.{quoted}
 use Rattle.json.proofs.Printed.Utf8.{IsUtf8-are_ascii, IsUtf8-quoted}
 use Rattle.jl_value.specs.Tree.{Tree, null, truth, whole, text, list, table, numbers, Items, no_items, item, Members, no_members, member, nesting}
 use Rattle.jl_value.specs.Canonical.{array_key, comma_if, numbers_text, text_of, items_text, members_text}
-use Rattle.jl_value.specs.Proper.{IsWhole, AreWhole, IsProper, AreProper, HasProper}
+use Rattle.jl_value.specs.Proper.{FitsI64, AllFitI64, IsProper, AreProper, HasProper}
 use Rattle.jl_value.specs.Walked.{read_bytes}
 use Rattle.jl_value.proofs.Trips.{read_tree_back}
 
@@ -25,7 +25,7 @@ decimal_utf8 n h = IsUtf8-from_ascii (decimal n) (λ i. elim (cases_lt i (length
   | inr over ↦ let none = past (decimal n) i over in omega arith
 ])
 
-whole_utf8 : (z : ℤ) → IsWhole z → IsUtf8 (signed_decimal z)
+whole_utf8 : (z : ℤ) → FitsI64 z → IsUtf8 (signed_decimal z)
 whole_utf8 (pos n) h = decimal_utf8 n (omega arith)
 whole_utf8 (negsuc n) h = IsUtf8-append (45 ∷ []) (decimal (suc n)) (IsUtf8-are_ascii _ refl) (decimal_utf8 (suc n) (omega arith))
 
@@ -33,7 +33,7 @@ comma_utf8 : (later : Bool) → IsUtf8 (comma_if later)
 comma_utf8 true = IsUtf8-are_ascii _ refl
 comma_utf8 false = IsUtf8-nil
 
-numbers_utf8 : (later : Bool) (zs : List ℤ) → AreWhole zs → IsUtf8 (numbers_text later zs)
+numbers_utf8 : (later : Bool) (zs : List ℤ) → AllFitI64 zs → IsUtf8 (numbers_text later zs)
 numbers_utf8 later [] h = IsUtf8-are_ascii _ refl
 numbers_utf8 later (z ∷ zs) h = IsUtf8-append (comma_if later) _ (comma_utf8 later) (IsUtf8-append (signed_decimal z) _ (whole_utf8 z h.0) (numbers_utf8 true zs h.1))
 

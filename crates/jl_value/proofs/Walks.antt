@@ -27,7 +27,7 @@ use Rattle.jl_value.specs.Tree.{Tree, Items, no_items, item, Members, no_members
 use Rattle.jl_value.specs.Form.{tree_of, trees_of, entries_of, keys_in}
 use Rattle.jl_value.specs.Reading.{Read, mapped, then', walk, walk_items, walk_members, whole_in, wholes_in, array_in, only_array, array_within, has_array_key}
 use Rattle.jl_value.specs.Walked.{items_before, members_before, array_among}
-use Rattle.jl_value.specs.Proper.{IsWhole, AreWhole, IsProper, AreProper, HasProper, AreKeys}
+use Rattle.jl_value.specs.Proper.{FitsI64, AllFitI64, IsProper, AreProper, HasProper, AreKeys}
 use Rattle.jl_value.specs.declared.value.Value.{Value}
 
 next : {A : Type 0} (xs : List A) (i : ℕ) (x : A) → i < length xs → x ≡ get_or xs i x → drop i xs ≡ x ∷ drop (suc i) xs
@@ -168,7 +168,7 @@ whole_stop zs xs i x r h is here so_far =
 pub whole_end : (zs : List ℤ) (xs : List J.Value) (i : ℕ) (r : Option (List ℤ)) → length xs ≤ i → r ≡ option_map (λ l. zs ++ l) (wholes_in (items_view (drop i xs))) → r ≡ Some (zs ++ [])
 whole_end zs xs i r h so_far = so_far ∙ ap (λ l. option_map (λ m. zs ++ m) (wholes_in (items_view l))) (drop_all i xs h)
 
-pub are_whole_push : (zs : List ℤ) (z : ℤ) → AreWhole zs → IsWhole z → AreWhole (zs ++ z ∷ [])
+pub are_whole_push : (zs : List ℤ) (z : ℤ) → AllFitI64 zs → FitsI64 z → AllFitI64 (zs ++ z ∷ [])
 are_whole_push [] z h w = (w, tt)
 are_whole_push (y ∷ zs) z h w = (h.0, are_whole_push zs z h.1 w)
 
@@ -190,7 +190,7 @@ no_key es h = ap is_some (sym h)
 pub object_walk : (n : ℕ) (es : List Entry) (d : json.Data) → Some d ≡ get_member array_key (members_view es) → walk (suc n) (json.object (members_view es)) ≡ array_within n (array_among (length es) d)
 object_walk n es d h = rw (sym h) (ap (array_within n) (only_is es d (sym h)))
 
-pub whole_fits : (z : ℤ) → SFits w64 z → IsWhole z
+pub whole_fits : (z : ℤ) → SFits w64 z → FitsI64 z
 whole_fits (pos n) h = omega arith
 whole_fits (negsuc n) h = omega arith
 

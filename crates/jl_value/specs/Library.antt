@@ -39,10 +39,10 @@ Counted (Done o) old new = new ≡ next_count old
 Counted NoMemory old new = new ≡ old
 
 -- the module is taken exactly where it has no fault; else the library keeps the one that it had
-abbrev pub HasRead : ReadModule → Option ModuleFault → List ℕ → List ℕ → List ℕ → Type 0
-HasRead Read fault bytes old new = (fault ≡ None) × (new ≡ bytes)
-HasRead (Fault f) fault bytes old new = (fault ≡ Some f) × (new ≡ old)
-HasRead NoMemoryToRead fault bytes old new = new ≡ old
+abbrev pub TakesModule : ReadModule → Option ModuleFault → List ℕ → List ℕ → List ℕ → Type 0
+TakesModule Read fault bytes old new = (fault ≡ None) × (new ≡ bytes)
+TakesModule (Fault f) fault bytes old new = (fault ≡ Some f) × (new ≡ old)
+TakesModule NoMemoryToRead fault bytes old new = new ≡ old
 
 -- a value of a library keeps the limits of depth and of its text
 abbrev pub IsWithin : Answer → Type 0

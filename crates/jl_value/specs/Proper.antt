@@ -9,14 +9,14 @@ use Rattle.jl_value.specs.Tree.{Tree, null, truth, whole, text, list, table, num
 use Rattle.jl_value.specs.Canonical.{array_key}
 
 -- a signed number of 64 bits
-abbrev pub IsWhole : ℤ → Type 0
-IsWhole (pos n) = n < 2 ^ 63
-IsWhole (negsuc n) = n < 2 ^ 63
+abbrev pub FitsI64 : ℤ → Type 0
+FitsI64 (pos n) = n < 2 ^ 63
+FitsI64 (negsuc n) = n < 2 ^ 63
 
 -- each number of an array is one
-abbrev pub AreWhole : List ℤ → Type 0
-AreWhole [] = ⊤
-AreWhole (z ∷ zs) = IsWhole z × AreWhole zs
+abbrev pub AllFitI64 : List ℤ → Type 0
+AllFitI64 [] = ⊤
+AllFitI64 (z ∷ zs) = FitsI64 z × AllFitI64 zs
 
 -- the keys of a table, in their order
 abbrev pub keys : Members → List (List ℕ)
@@ -32,11 +32,11 @@ abbrev mutual
   pub IsProper : Tree → Type 0
   IsProper null = ⊤
   IsProper (truth b) = ⊤
-  IsProper (whole z) = IsWhole z
+  IsProper (whole z) = FitsI64 z
   IsProper (text s) = IsUtf8 s
   IsProper (list ts) = AreProper ts
   IsProper (table ms) = AreKeys (keys ms) × HasProper ms
-  IsProper (numbers zs) = AreWhole zs
+  IsProper (numbers zs) = AllFitI64 zs
 
   -- the same of each member of a list
   pub AreProper : Items → Type 0

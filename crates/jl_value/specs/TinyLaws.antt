@@ -21,7 +21,7 @@ use Rattle.std.proofs.lemmas.Slice.Eq.{bytes_eq-Decides}
 use Rattle.jl_text.specs.Texts.{is_name, is_name_byte, begins_with_digit}
 use Rattle.jl_value.specs.Tree.{Tree, whole}
 use Rattle.jl_value.specs.Key.{args_tree}
-use Rattle.jl_value.specs.Proper.{IsWhole, IsProper}
+use Rattle.jl_value.specs.Proper.{FitsI64, IsProper}
 use Rattle.jl_value.specs.Library.{value, error, IsWithin}
 use Rattle.jl_value.specs.Lines.{is_line, IsLine}
 use Rattle.jl_value.specs.Tiny.{is_positive, is_decimal, is_whole, number_of, definition_of, kind_among, line_fault, or_later, fault_in, name_is, defines, without_empty_last, tiny_lines, code_in, line_in, tiny_code, tiny_line, tiny_fault, answer_by, tiny_answer}
@@ -312,11 +312,11 @@ tiny_utf8 m e = low_utf8 m (joined_low m (with_last (slice_split (λ b. b == 10)
 
 -- ---- answers
 
-pub is_whole-true : (z : ℤ) → is_whole z ≡ true → IsWhole z
+pub is_whole-true : (z : ℤ) → is_whole z ≡ true → FitsI64 z
 is_whole-true (pos n) e = ltb-true n (2 ^ 63) e
 is_whole-true (negsuc n) e = ltb-true n (2 ^ 63) e
 
-whole_short : (z : ℤ) → IsWhole z → length (signed_decimal z) ≤ MOST_TEXT_BYTES
+whole_short : (z : ℤ) → FitsI64 z → length (signed_decimal z) ≤ MOST_TEXT_BYTES
 whole_short (pos n) h = let short = length-decimal-le 20 n (omega arith) (omega arith) (omega arith) in omega arith
 whole_short (negsuc n) h = let short = length-decimal-le 20 (suc n) (omega arith) (omega arith) (omega arith) in omega arith
 

@@ -8,7 +8,7 @@ ghost use Rattle.jl_value.specs.Proper.{IsProper};
 ghost use Rattle.jl_value.specs.declared.library.ModuleFault.{ModuleFault};
 ghost use Rattle.jl_value.specs.Names.{name_of, fault_name_of};
 ghost use Rattle.jl_value.specs.Lines.{is_line, IsLine};
-ghost use Rattle.jl_value.specs.Library.{Answer, value as answered, error as failed, outcome_of, IfDone, Counted, HasRead, IsWithin, next_count};
+ghost use Rattle.jl_value.specs.Library.{Answer, value as answered, error as failed, outcome_of, IfDone, Counted, TakesModule, IsWithin, next_count};
 
 use crate::key::Args;
 use crate::value::Value;
@@ -160,7 +160,7 @@ pub trait Library: Sized {
     ghost calls: { Self → ℕ };
 
     fn read_module(&mut self, alloc: Global, bytes: &[u8]) -> ReadModule
-        ensures read { HasRead result (fault bytes.now) bytes.now (loaded self.old)
+        ensures read { TakesModule result (fault bytes.now) bytes.now (loaded self.old)
             (loaded self.new) }
         ensures calls { calls self.new ≡ calls self.old };
 

@@ -6,7 +6,7 @@ ghost use Rattle.jl_value.specs.Tree.{items_of, members_of, nesting};
 ghost use Rattle.jl_value.specs.Form.{tree_of, trees_of, entries_of, keys_in};
 ghost use Rattle.jl_value.specs.Reading.{walk as walk_of, walk_items as walk_items_of, walk_members as walk_members_of, array_in, array_within, has_array_key};
 ghost use Rattle.jl_value.specs.Walked.{read_bytes, array_among};
-ghost use Rattle.jl_value.specs.Proper.{IsProper, AreProper, HasProper, AreWhole, AreKeys};
+ghost use Rattle.jl_value.specs.Proper.{IsProper, AreProper, HasProper, AllFitI64, AreKeys};
 
 use crate::fault::ValueFault;
 use crate::value::{List, Numbers, Table, Value};
@@ -132,7 +132,7 @@ fn walk_array(alloc: Global, array: &Json, len: usize, depth: u32) -> Result<Val
 // The numbers of a list of whole numbers.
 fn wholes(alloc: Global, array: &Json) -> Result<Option<Vec<i64>>, AllocError>
     ensures value { IfOk result (λ o. option_map (λ v. v.items) o ≡ array_in (view array.now)) }
-    ensures whole { IfOk result (λ o. IfSome o (λ v. AreWhole v.items)) }
+    ensures whole { IfOk result (λ o. IfSome o (λ v. AllFitI64 v.items)) }
 {
     let Json::Array(items) = array else {
         return Ok(None);

@@ -7,7 +7,7 @@ ghost use Rattle.jl_value.specs.Tree.{Tree, items_of, members_of, nesting};
 ghost use Rattle.jl_value.specs.Form.{tree_of, trees_of, entries_of, keys_in};
 ghost use Rattle.jl_value.specs.Canonical.{text_of};
 ghost use Rattle.jl_value.specs.Tokens.{tokens_of, list_tokens, table_tokens, numbers_tokens};
-ghost use Rattle.jl_value.specs.Proper.{IsProper, AreProper, HasProper, AreWhole, AreKeys};
+ghost use Rattle.jl_value.specs.Proper.{IsProper, AreProper, HasProper, AllFitI64, AreKeys};
 
 use crate::value::{Table, Value};
 use jl_text::Text;
@@ -111,7 +111,7 @@ fn write_numbers(numbers: &[i64], writer: &mut Writer) -> Result<(), AllocError>
     ensures tokens { OnOk result (writer.new.tokens
         ≡ writer.old.tokens ++ numbers_tokens numbers.now) }
     ensures before { OnOk result (writer.new.before ≡ writer.old.before) }
-    ensures proper { OnOk result (AreWhole numbers.now) }
+    ensures proper { OnOk result (AllFitI64 numbers.now) }
 {
     for n in numbers {
         writer.i64(*n)?;

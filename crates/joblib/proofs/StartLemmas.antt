@@ -11,14 +11,14 @@ use Rattle.jl_cmd.specs.Course.{Course, IsClear}
 use Rattle.jl_cmd.specs.Ran.{Runs}
 use Rattle.jl_cmd.specs.Saying.{SaidBy}
 use Rattle.jl_cmd.specs.Output.{Output, hash_output}
-use Rattle.jl_cmd.specs.Promises.{IsWhole, text_of_status}
+use Rattle.jl_cmd.specs.Promises.{HasWholeOutput, text_of_status}
 use Rattle.joblib.specs.Tokens.{FirstGives, IsTokenOf, own_of}
-use Rattle.joblib.specs.Starts.{RunsOwn, RunsWords, Tells, fault_status, fault_text}
+use Rattle.joblib.specs.Starts.{RunsOwn, RunsWords, TellsStatus, fault_status, fault_text}
 use Rattle.joblib.specs.declared.start.StartFault.{StartFault}
 use Rattle.joblib.specs.declared.start.StartFault.TheVariants.{Usage, Memory}
 
 -- at the processors that the host tells
-pub runs_own : (words : List (List ℕ)) (processors told n : ℕ) (Puts : Output → Type 0) → told ≡ processors → (given_of words told ≡ None → (n ≡ 2) ⊎ (n ≡ 8)) → (n ≡ 2 → given_of words told ≡ None) → ((args : List ℕ) → given_of words told ≡ Some (hash args) → IsWhole n → Puts (hash_output args)) → RunsOwn words processors Puts n
+pub runs_own : (words : List (List ℕ)) (processors told n : ℕ) (Puts : Output → Type 0) → told ≡ processors → (given_of words told ≡ None → (n ≡ 2) ⊎ (n ≡ 8)) → (n ≡ 2 → given_of words told ≡ None) → ((args : List ℕ) → given_of words told ≡ Some (hash args) → HasWholeOutput n → Puts (hash_output args)) → RunsOwn words processors Puts n
 runs_own words processors told n Puts same usage only hashes =
     let one : given_of words told ≡ given_of words processors = ap (λ (k : ℕ). given_of words k) same in
     record {
@@ -46,7 +46,7 @@ pub behind_nothing : (errors errors' said text : List ℕ) → said ≡ [] → e
 behind_nothing errors errors' said text none is = is ∙ ap (λ (s : List ℕ). errors ++ (s ++ text)) none
 
 -- what a run promises of its status tells that
-pub tells_run : (given : Option Command) (w : Course) (err err' : SinkView) (n : ℕ) → Runs given w err err' n → Tells n w.out w.out' err err'
+pub tells_run : (given : Option Command) (w : Course) (err err' : SinkView) (n : ℕ) → Runs given w err err' n → TellsStatus n w.out w.out' err err'
 tells_run given w err err' n runs = record {
   statuses = runs.statuses;
   nothing = runs.nothing;
@@ -59,8 +59,8 @@ tells_run given w err err' n runs = record {
 }
 
 -- a text that was written to the error stream, and nothing to the output
-pub tells_fault : (fault : StartFault) (n : ℕ) (r : WroteAll) (text : List ℕ) (out err err' : SinkView) → n ≡ fault_status fault → text ≡ fault_text fault → (err.told → WritesAll r text err.written err'.written) → SinkAnswers (r ≡ wrote_all.Fault) err err' → Tells n out out err err'
-tells_fault fault n r text out err err' at is writes answers = subst (λ (k : ℕ). Tells k out out err err') (sym at) (of_fault fault is)
+pub tells_fault : (fault : StartFault) (n : ℕ) (r : WroteAll) (text : List ℕ) (out err err' : SinkView) → n ≡ fault_status fault → text ≡ fault_text fault → (err.told → WritesAll r text err.written err'.written) → SinkAnswers (r ≡ wrote_all.Fault) err err' → TellsStatus n out out err err'
+tells_fault fault n r text out err err' at is writes answers = subst (λ (k : ℕ). TellsStatus k out out err err') (sym at) (of_fault fault is)
   where
     wrote : IsClear err err' → err'.written ≡ err.written ++ text
     wrote clear = by_answer r (writes clear.0) answers.faults.failed
@@ -75,7 +75,7 @@ tells_fault fault n r text out err err' at is writes answers = subst (λ (k : �
     keeps : SinkKeeps err err'
     keeps = record { told = answers.told; later = answers.faults.later }
 
-    of_fault : (f : StartFault) → text ≡ fault_text f → Tells (fault_status f) out out err err'
+    of_fault : (f : StartFault) → text ≡ fault_text f → TellsStatus (fault_status f) out out err err'
     of_fault Usage same = record {
       statuses = inr (inl (inl refl));
       nothing = λ silent told. refl;

@@ -3,7 +3,7 @@ ghost use Rattle.std.specs.Prelude.{◌≡◌, ◌≤◌, IfOk, IfErr, map, stri
 ghost use Rattle.jl_text.specs.declared.limits.TheConstants.{MOST_PROCESSORS};
 ghost use Rattle.joblib.specs.Tokens.{FirstGives, IsTokenOf};
 ghost use Rattle.jl_cmd.specs.Promises.{IsSilent};
-ghost use Rattle.joblib.specs.Starts.{PutsWhole, RunsOwn, RunsWords, Tells, fault_status, fault_text};
+ghost use Rattle.joblib.specs.Starts.{PutsOutput, RunsOwn, RunsWords, TellsStatus, fault_status, fault_text};
 
 use crate::real_folder::RealFolder;
 use crate::real_host::{RealHost, moment_of};
@@ -125,9 +125,9 @@ where
     requires most { processors ≤ MOST_PROCESSORS }
     ensures token { IfOk result (λ r. r.token ≡ token) }
     ensures words { IfOk result (λ r. RunsOwn (map string_bytes words.now) processors
-        (PutsWhole r.status (O.view out.old) (O.view out.new) (E.view err.old) (E.view err.new)) r.status) }
+        (PutsOutput r.status (O.view out.old) (O.view out.new) (E.view err.old) (E.view err.new)) r.status) }
     ensures tells { IfOk result
-        (λ r. Tells r.status (O.view out.old) (O.view out.new) (E.view err.old) (E.view err.new)) }
+        (λ r. TellsStatus r.status (O.view out.old) (O.view out.new) (E.view err.old) (E.view err.new)) }
     ensures not_run { IfErr result (λ e. (out.new ≡ out.old) × (err.new ≡ err.old)) }
 {
     let twin = token.copy()?;
@@ -165,9 +165,9 @@ where
     requires least { 1 ≤ processors }
     requires most { processors ≤ MOST_PROCESSORS }
     ensures words { IfOk result (λ r. RunsWords (map string_bytes words.now) processors r.token
-        (PutsWhole r.status (O.view out.old) (O.view out.new) (E.view err.old) (E.view err.new)) r.status) }
+        (PutsOutput r.status (O.view out.old) (O.view out.new) (E.view err.old) (E.view err.new)) r.status) }
     ensures tells { IfOk result
-        (λ r. Tells r.status (O.view out.old) (O.view out.new) (E.view err.old) (E.view err.new)) }
+        (λ r. TellsStatus r.status (O.view out.old) (O.view out.new) (E.view err.old) (E.view err.new)) }
     ensures not_run { IfErr result (λ e. (out.new ≡ out.old) × (err.new ≡ err.old)) }
 {
     let given = first_token(&rt, words)?;
@@ -185,7 +185,7 @@ where
     E: Sink,
     requires least { 1 ≤ processors }
     requires most { processors ≤ MOST_PROCESSORS }
-    ensures { Tells result (O.view out.old) (O.view out.new) (E.view err.old) (E.view err.new) }
+    ensures { TellsStatus result (O.view out.old) (O.view out.new) (E.view err.old) (E.view err.new) }
 {
     let fault = match words_of(&rt) {
         Ok(words) => match run_words(rt, processors, words.as_slice(), input, out, err) {

@@ -17,11 +17,11 @@ use Rattle.jl_cmd.specs.declared.ended.Ended.{Ended}
 use Rattle.jl_cmd.specs.declared.ended.Ended.TheVariants.{Usage, ReadFault, NoMemory, NoModule, FolderFault}
 use Rattle.jl_cmd.specs.Calling.{memory_at, CallWarns, AreOfCall, LeavesCalled, LeavesRead, ComputedAt, EndedAt}
 use Rattle.jl_cmd.specs.Caches.{CallsLawfully, IsOfCall, CallsIn, MakesNone}
-use Rattle.jl_cmd.specs.Coming.{HasComputed, ComesCalled, CallComes, EndsWith}
+use Rattle.jl_cmd.specs.Coming.{ComputedWith, ComesCalled, CallComes, EndsWith}
 use Rattle.jl_cmd.specs.Computing.{Counts, Calls}
 use Rattle.jl_cmd.specs.Course.{Stretch}
-use Rattle.jl_cmd.specs.Endings.{Finishes, LacksTold, WritesNothing, status_of}
-use Rattle.jl_cmd.specs.Met.{Met, HasRead, bytes_in}
+use Rattle.jl_cmd.specs.Endings.{EndsComputed, LacksTold, WritesNothing, status_of}
+use Rattle.jl_cmd.specs.Met.{Met, ReadModuleFrom, bytes_in}
 use Rattle.jl_cmd.specs.Output.{call_output}
 use Rattle.jl_cmd.specs.Texts.{warning_lines}
 use Rattle.jl_cmd.specs.Uncalled.{IsUncalled}
@@ -37,7 +37,7 @@ pub record ComputesCall (memory : Memory) (bytes name args : List ℕ) (v : Stre
   pub warns : CallWarns v.means memory bytes name args v.folder v.folder' warnings warnings'
   pub alone : v.folder.told → IsLone v.folder.token (moved v.folder v.folder') → IsSound (root_of memory.location) v.means.answer (state v.folder)
       → (Rose v.folder.faults v.folder'.faults → ⊥) → ComputedAt c (LeavesCalled memory bytes name args v)
-  pub comes : ComputedAt c (ComesCalled memory bytes name args v (HasComputed c warnings warnings'))
+  pub comes : ComputedAt c (ComesCalled memory bytes name args v (ComputedWith c warnings warnings'))
 
 -- ---- what is said and left
 
@@ -74,7 +74,7 @@ CallEnds file location name args v met out out' FolderFault = Rose v.folder.faul
 CallEnds file location name args v met out out' Usage = ⊥
 CallEnds file location name args v met out out' ReadFault = ⊥
 CallEnds file location name args v met out out' e =
-    HasRead file v.folder v.folder' met × Finishes (call_output v.means (bytes_in met) name args) (IsTrusted (root_of location) v.means.answer v.folder v.folder') out out' e
+    ReadModuleFrom file v.folder v.folder' met × EndsComputed (call_output v.means (bytes_in met) name args) (IsTrusted (root_of location) v.means.answer v.folder v.folder') out out' e
 
 -- a call met this, ended so by lawful moves of its own, and did that
 pub record CallEnded (file location : PathView) (name args : List ℕ) (v : Stretch) (out out' : SinkView) (e : Ended) (said : List ℕ) : Type 0 where

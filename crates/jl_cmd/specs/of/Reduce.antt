@@ -10,7 +10,7 @@ use Rattle.jl_streams.specs.Views.{SinkView, HostView}
 use Rattle.jl_entry.specs.Names.{root_of}
 use Rattle.jl_quota.specs.declared.limits.Limits.{Limits}
 use Rattle.jl_rely.specs.Steps.{OwnMoves}
-use Rattle.jl_protocol.specs.Whole.{Answers}
+use Rattle.jl_protocol.specs.Whole.{CodeAnswers}
 use Rattle.jl_protocol.specs.Proper.{LawfulThroughout}
 use Rattle.jl_clear.specs.Taking.{IsTaking}
 use Rattle.jl_evict.specs.declared.reducing.Reduced.TheVariants as reduced
@@ -46,7 +46,7 @@ EndsReducing NoMemory Reported folder folder' out out' = WritesNothing out out'
 EndsReducing _ Reported folder folder' out out' = ⊥
 
 -- the run's own moves take away names of the store in the folders of entries, and these, and are lawful throughout
-pub record ReducesLawfully (location : PathView) (answer : Answers) (old new : FolderView) : Type 0 where
+pub record ReducesLawfully (location : PathView) (answer : CodeAnswers) (old new : FolderView) : Type 0 where
   pub takes : OwnMoves old.token (IsTaking (root_of location) (IsOfEntry (root_of location))) (moved old new)
   pub lawful : LawfulThroughout (root_of location) answer old.token (state old) (moved old new)
 

@@ -4,7 +4,7 @@ use Rattle.jl_text.specs.Paths.{PathView, path_of}
 use Rattle.jl_folder.specs.Views.{FolderView, state, moved}
 use Rattle.jl_streams.specs.Views.{SourceView, SinkView}
 use Rattle.jl_entry.specs.Names.{IsOutside}
-use Rattle.jl_protocol.specs.Whole.{Answers}
+use Rattle.jl_protocol.specs.Whole.{CodeAnswers}
 use Rattle.jl_protocol.specs.Proper.{LawfulThroughout}
 use Rattle.jl_tracker.specs.declared.line.Kind.{Kind}
 use Rattle.jl_tracker.specs.declared.line.Kind.TheVariants as kind
@@ -39,7 +39,7 @@ AreOutside root (removes k name ∷ es) = LiesOutside root k name × AreOutside 
 
 -- The tracker's own moves take away what the lines that it read ask for, which are the first of its input where that tells.
 -- They are lawful throughout for each cache of which none of that lies at or below the root or on the way to it.
-pub record TakesAsked (answer : Answers) (input : SourceView) (old new : FolderView) : Type 0 where
+pub record TakesAsked (answer : CodeAnswers) (input : SourceView) (old new : FolderView) : Type 0 where
   pub asked : MovesAsked input old new
   pub lawful : (root : PathView) → AreOutside root (all_effects asked.readings) → LawfulThroughout root answer old.token (state old) (moved old new)
 
@@ -53,7 +53,7 @@ EndsTracked (tracked.TooMuch line) e = (e ≡ Refused (refuses_input line).text)
 EndsTracked tracked.NoMemory e = e ≡ NoMemory
 
 -- the tracker followed the lines of the input, and the run ends so
-pub record Follows (input input' : SourceView) (folder folder' : FolderView) (err err' : SinkView) (e : Ended) : Type 0 where
+pub record FollowsLines (input input' : SourceView) (folder folder' : FolderView) (err err' : SinkView) (e : Ended) : Type 0 where
   pub tracked : Tracked
   pub tracks : Tracks input input' (stage folder err) (stage folder' err') tracked
   pub moves : folder.told → MovesAsked input folder folder'
@@ -64,7 +64,7 @@ pub record Follows (input input' : SourceView) (folder folder' : FolderView) (er
 pub record RunsTracker (w : Course) (err err' : SinkView) (n : ℕ) : Type 0 where
   pub ended : Ended
   pub point : SinkPoint
-  pub follows : Follows w.input w.input' w.folder w.folder' err (sink_at err point) ended
+  pub follows : FollowsLines w.input w.input' w.folder w.folder' err (sink_at err point) ended
   pub later : point.faults ≤ err'.faults
   pub status : n ≡ status_of ended
   pub text : IsClear (sink_at err point) err' → err'.written ≡ point.written ++ last_text ended

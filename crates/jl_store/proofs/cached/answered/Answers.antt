@@ -17,7 +17,7 @@ use Rattle.jl_store.specs.Trust.{IsTrusted}
 use Rattle.jl_store.specs.Calling.{IsAnswering}
 use Rattle.jl_store.specs.Publishing.{IsPublished}
 use Rattle.jl_store.specs.Keeping.{IsMakingEntry, PutsEntry, HasPut, IsReadyToKeep, IsReadyToTouch, entry_in, last_of, temp_of}
-use Rattle.jl_store.specs.Looking.{Stands, warnings_for}
+use Rattle.jl_store.specs.Looking.{HasEntryOf, warnings_for}
 use Rattle.jl_store.specs.Next.{entry_asked}
 use Rattle.jl_store.specs.Warned.{UsesCall}
 use Rattle.jl_store.specs.Parts.{HasFunction, HasFolder}
@@ -224,7 +224,7 @@ returns-in-Miss-clause-alone g c = λ told n lone ready rose.
     let none = look_miss a c.args.warnings.now.items c.look_for.new.warnings.items old mid waits lones.0 ready.0 (λ orderly. c.in-Miss.ensures.tidy told c.args.code.now n c.args.args.now c.requires.head c.requires.key orderly) (λ r. rose (rose_later old.faults mid.faults new.faults r c.missed.ensures.frame.later)) in
     subst (λ (s : State). LeavesAnswer c.missed.result a s (state new) host) same
     (c.missed.ensures.alone told' n lones.1
-    (subst (λ (s : State). IsReadyToKeep (entry_asked a) s) (sym same) ready) (λ r. rose (later_rose old.faults mid.faults new.faults frame.faults.later r)) (subst (λ (s : State). Stands (output_asked a) a.code a.args s → ⊥) (sym same) none))
+    (subst (λ (s : State). IsReadyToKeep (entry_asked a) s) (sym same) ready) (λ r. rose (later_rose old.faults mid.faults new.faults frame.faults.later r)) (subst (λ (s : State). HasEntryOf (output_asked a) a.code a.args s → ⊥) (sym same) none))
 
 pub returns-in-NoMemory-clause-alone : goal.returns-in-NoMemory-clause-alone
 returns-in-NoMemory-clause-alone g c = λ told n lone ready rose.

@@ -13,7 +13,7 @@ use Rattle.jl_rely.specs.Touches.{TouchedByOther}
 use Rattle.jl_rely.proofs.Touched.{touched_as}
 use Rattle.jl_rely.proofs.Alone.{lone_parts}
 use Rattle.jl_rely.proofs.Moving.{moves_none}
-use Rattle.jl_protocol.specs.Whole.{Answers}
+use Rattle.jl_protocol.specs.Whole.{CodeAnswers}
 use Rattle.jl_protocol.specs.Proper.{IsProper, LawfulThroughout}
 use Rattle.jl_protocol.specs.Tidy.{IsTidy}
 use Rattle.jl_protocol.proofs.Before.{one_value, some_of}
@@ -24,7 +24,7 @@ use Rattle.jl_store.specs.Calling.{IsBeforeOutput, PutsCall, PutsAnswer, IsAnswe
 use Rattle.jl_store.specs.Trust.{IsTrusted}
 use Rattle.jl_store.specs.Kinds.{PutsThis}
 use Rattle.jl_store.specs.Checking.{Checks, IsChecking, UsesCode, function_path, code_path, code_temp}
-use Rattle.jl_store.specs.Keeping.{IsMakingEntry, Entry, entry_in}
+use Rattle.jl_store.specs.Keeping.{IsMakingEntry, EntryPlace, entry_in}
 use Rattle.jl_store.specs.Next.{entry_asked, ChecksAlone}
 use Rattle.jl_store.specs.Warned.{UsesCall, IsOrderly}
 use Rattle.jl_store.specs.Parts.{HasFunction, WarnsFrom, check_warns}
@@ -53,7 +53,7 @@ use Rattle.jl_store.proofs.cached.call_cached.Goals as goal
 -- ---- its moves
 
 -- the check of the code, as a part of a call that answers so
-checked : (r : Cached) (e : Entry) (answer : Answers) (bytes token : List ℕ) (old new : FolderView) → old.token ≡ token
+checked : (r : Cached) (e : EntryPlace) (answer : CodeAnswers) (bytes token : List ℕ) (old new : FolderView) → old.token ≡ token
     → Called (IsProper e.root) (PutsThis e.root (code_path e.root e.module_name e.function_name) bytes) (IsChecking (function_path e.root e.module_name e.function_name) (code_path e.root e.module_name e.function_name) (code_temp e.root e.module_name e.function_name token)) (IsTidy e.root) Anywhere old new
     → LawfulThroughout e.root answer token (state old) (moved old new) → Lawfully e.root answer (IsCalling r e old.token) old new
 checked r e answer bytes token old new mine called lawful =
@@ -62,7 +62,7 @@ checked r e answer bytes token old new mine called lawful =
     (subst (λ (u : List ℕ). LawfulThroughout e.root answer u (state old) (moved old new)) (sym mine) lawful))
 
 -- and the rest of one
-answered : (r : Cached) (e : Entry) (answer : Answers) (token : List ℕ) (old new : FolderView) → old.token ≡ token → Lawfully e.root answer (IsAnswering r e old.token) old new → Lawfully e.root answer (IsCalling r e token) old new
+answered : (r : Cached) (e : EntryPlace) (answer : CodeAnswers) (token : List ℕ) (old new : FolderView) → old.token ≡ token → Lawfully e.root answer (IsAnswering r e old.token) old new → Lawfully e.root answer (IsCalling r e token) old new
 answered r e answer token old new same lawful =
     lawful_as e.root answer (IsCalling r e token) (IsAnswering r e token) old new (answering_kinds r e token) (subst (λ (u : List ℕ). Lawfully e.root answer (IsAnswering r e u) old new) same lawful)
 
@@ -484,7 +484,7 @@ returns-in-Ok-warn_of_check-clause-order g c = λ told.
 -- ---- its parts
 
 -- for want of memory no part is told
-ended : (answer : Answers) (a : Asked) (old new : FolderView) (host : HostView) (calls : ℕ) (ws ws' : List Warning)
+ended : (answer : CodeAnswers) (a : Asked) (old new : FolderView) (host : HostView) (calls : ℕ) (ws ws' : List Warning)
     → Lawfully a.root answer (IsCalling NoMemory (entry_asked a) old.token) old new → FolderKeeps old new → TaskDid answer a NoMemory (point old host calls ws) (point new host calls ws')
 ended answer a old new host calls ws ws' call keeps =
     record { call = call; folder = keeps; host = record { told = λ t. t; token = refl; processors = refl }; counts = inl refl; parts = tt }

@@ -7,12 +7,12 @@ use Rattle.jl_entry.specs.declared.names.EntryFile.TheVariants.{Access}
 use Rattle.jl_value.specs.Key.{key_of}
 use Rattle.jl_value.specs.declared.value.Value.{Value}
 use Rattle.jl_rely.specs.Claims.{Anywhere}
-use Rattle.jl_protocol.specs.Whole.{Answers}
+use Rattle.jl_protocol.specs.Whole.{CodeAnswers}
 use Rattle.jl_store.specs.Asked.{asked}
 use Rattle.jl_store.specs.Calling.{IsAnswering}
 use Rattle.jl_store.specs.Kinds.{IsFor, PutsThis, UsesNames}
 use Rattle.jl_store.specs.Publishing.{IsPublished}
-use Rattle.jl_store.specs.Keeping.{Entry, KeepsFile, HasPut, entry_in, file_of, last_of, temp_of, IsReadyToTouch}
+use Rattle.jl_store.specs.Keeping.{EntryPlace, KeepsFile, HasPut, entry_in, file_of, last_of, temp_of, IsReadyToTouch}
 use Rattle.jl_store.specs.Parts.{HasFolder, keep_warns}
 use Rattle.jl_store.specs.declared.answer.Keep.{Keep}
 use Rattle.jl_store.specs.declared.cached.Cached.{Cached}
@@ -29,7 +29,7 @@ use Rattle.jl_store.proofs.Putting.{found_puts}
 use Rattle.jl_store.proofs.cached.found.Goals as goal
 
 -- touching renames no output
-touched : (e : Entry) (bytes : List ℕ) (Ready : State → Type 0) (old new : FolderView) (k : Keep) (r : Cached) (v : Value) (answer : Answers) → (r ≡ Hit v) ⊎ (r ≡ NoMemory) → KeepsFile e Access bytes Ready k old new → Lawfully e.root answer (IsAnswering r e old.token) old new
+touched : (e : EntryPlace) (bytes : List ℕ) (Ready : State → Type 0) (old new : FolderView) (k : Keep) (r : Cached) (v : Value) (answer : CodeAnswers) → (r ≡ Hit v) ⊎ (r ≡ NoMemory) → KeepsFile e Access bytes Ready k old new → Lawfully e.root answer (IsAnswering r e old.token) old new
 touched e bytes Ready old new k r v answer is keeps =
     lawful_by e.root answer (IsAnswering r e old.token) (PutsThis e.root (last_of e Access) bytes) (IsFor (last_of e Access) (temp_of e old.token Access)) Anywhere old new (found_kinds r v e old.token is)
     (this_true e.root answer (file_of e Access) (last_of e Access) bytes (only_final e Access) (moment_true e answer bytes)) keeps.call

@@ -5,7 +5,7 @@ use Rattle.jl_entry.specs.Names.{code_of, IsTemp}
 use Rattle.jl_rely.proofs.Touched.{touched_as}
 use Rattle.jl_store.specs.Publishing.{IsOfFile}
 use Rattle.jl_store.specs.Storing.{FoldersOr}
-use Rattle.jl_store.specs.Checking.{UsesCode, IsDone}
+use Rattle.jl_store.specs.Checking.{UsesCode, IsCodePublished}
 use Rattle.jl_store.specs.Doing.{IsPrefix, IsMaking}
 use Rattle.jl_store.specs.declared.folders.MadeFolders.{MadeFolders}
 use Rattle.jl_store.proofs.SkipCauses.{skips_then, folders_used, steps_first}
@@ -88,4 +88,4 @@ returns-in-Made-clause-alone g c = λ t lone root m f hm hf are tidy.
     let parts = lone_parts old mid new (c.make_folders.ensures.moves t).went (c.store.ensures.stores.goes told) lone in
     let before = c.make_folders.ensures.alone t c.in-Made.is parts.0 root (m, f, hm, hf, are.0) tidy in
     leaves_written c.store.result files bytes (state old) (state new) (comes_written c.store.result c.store.ensures.answer)
-    (λ is. writes_code root m f old.token files are hm hf bytes (state old) (state mid) (state new) before (c.store.ensures.alone told (subst IsDone (sym is) tt) parts.1))
+    (λ is. writes_code root m f old.token files are hm hf bytes (state old) (state mid) (state new) before (c.store.ensures.alone told (subst IsCodePublished (sym is) tt) parts.1))

@@ -3,7 +3,7 @@ use Rattle.jl_folder.specs.Views.{state}
 use Rattle.jl_rely.proofs.Alone.{lone_parts}
 use Rattle.jl_entry.specs.Names.{code_of, IsTemp, IsFunctionFolder}
 use Rattle.jl_store.specs.Publishing.{IsOfFile}
-use Rattle.jl_store.specs.Checking.{IsDone}
+use Rattle.jl_store.specs.Checking.{IsCodePublished}
 use Rattle.jl_store.specs.Doing.{IsClearing}
 use Rattle.jl_store.proofs.Cleared.{cleared_moves, cleared_alone}
 use Rattle.jl_store.proofs.SkipCauses.{skips_then, cleared_there}
@@ -84,4 +84,4 @@ returns-in-Cleared-clause-alone g c = λ t lone root m f hm hf are tidy.
     let parts = lone_parts old mid new (clears.moves t).went (c.store.ensures.stores.goes told) lone in
     let before = cleared_alone root files.folder fun _ old mid clears refl t parts.0 tidy in
     leaves_replaced c.store.result files bytes (state old) (state new) (comes_replaced c.store.result c.store.ensures.answer)
-    (λ is. replaces_code root m f old.token files are hm hf bytes (state old) (state mid) (state new) before (c.store.ensures.alone told (subst IsDone (sym is) tt) parts.1))
+    (λ is. replaces_code root m f old.token files are hm hf bytes (state old) (state mid) (state new) before (c.store.ensures.alone told (subst IsCodePublished (sym is) tt) parts.1))

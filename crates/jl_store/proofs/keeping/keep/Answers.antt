@@ -3,7 +3,7 @@ use Rattle.hex.specs.Hex.{encode_lower}
 use Rattle.jl_folder.specs.Views.{state, moved}
 use Rattle.jl_value.specs.Form.{tree_of}
 use Rattle.jl_value.specs.Key.{key_of}
-use Rattle.jl_store.specs.Keeping.{IsMakingEntry, lasts_of, InOrder, entry_in, texts, text_in, IsReadyToKeep, HasPutAll, HasEntry, Keeps}
+use Rattle.jl_store.specs.Keeping.{IsMakingEntry, lasts_of, InOrder, entry_in, texts, text_in, IsReadyToKeep, HasPutAll, HasEntry, KeepsEntry}
 use Rattle.jl_store.proofs.KeepFacts.{nothing_keeps}
 use Rattle.jl_store.proofs.Orders.{order_none}
 use Rattle.jl_store.specs.Renames.{PutsInTurn}

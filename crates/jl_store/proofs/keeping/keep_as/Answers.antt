@@ -3,7 +3,7 @@ use Rattle.hex.specs.Hex.{encode_lower}
 use Rattle.jl_folder.specs.Views.{state, moved}
 use Rattle.jl_value.specs.Form.{tree_of}
 use Rattle.jl_value.specs.Key.{key_of}
-use Rattle.jl_store.specs.Keeping.{IsMakingEntry, lasts_of, InOrder, entry_in, texts, text_in, IsReadyToKeep, HasPutAll, HasEntry, Keeps}
+use Rattle.jl_store.specs.Keeping.{IsMakingEntry, lasts_of, InOrder, entry_in, texts, text_in, IsReadyToKeep, HasPutAll, HasEntry, KeepsEntry}
 use Rattle.jl_store.proofs.KeepFacts.{nothing_keeps}
 use Rattle.jl_store.proofs.Orders.{order_none}
 use Rattle.jl_store.specs.Renames.{PutsInTurn}
@@ -28,8 +28,8 @@ returns-clause-called g c t =
     let at = entry_in c.args.memory.now c.args.name.now c.args.key.now.0 in
     let text : text_in c.in-Ok.texts ≡ texts c.args.code.now c.args.args.now (tree_of c.args.value.now) c.args.duration c.args.moment = λ i file. c.in-Ok.ensures.texts file i in
     let whole = c.in-Ok.ensures.whole at (ap encode_lower c.requires.key) in
-    subst (λ k. Keeps (entry_in c.args.memory.now c.args.name.now k) (texts c.args.code.now c.args.args.now (tree_of c.args.value.now) c.args.duration c.args.moment) (IsReadyToKeep (entry_in c.args.memory.now c.args.name.now k)) (HasPutAll (entry_in c.args.memory.now c.args.name.now k) token) c.keep_texts.result old new) c.requires.key
-    (subst (λ f. Keeps at f (IsReadyToKeep at) (HasPutAll at token) c.keep_texts.result old new) text (c.keep_texts.ensures.called t whole))
+    subst (λ k. KeepsEntry (entry_in c.args.memory.now c.args.name.now k) (texts c.args.code.now c.args.args.now (tree_of c.args.value.now) c.args.duration c.args.moment) (IsReadyToKeep (entry_in c.args.memory.now c.args.name.now k)) (HasPutAll (entry_in c.args.memory.now c.args.name.now k) token) c.keep_texts.result old new) c.requires.key
+    (subst (λ f. KeepsEntry at f (IsReadyToKeep at) (HasPutAll at token) c.keep_texts.result old new) text (c.keep_texts.ensures.called t whole))
 
 pub returns-clause-alone : goal.returns-clause-alone
 returns-clause-alone g c t is lone =

@@ -7,7 +7,7 @@ use Rattle.jl_rely.proofs.Alone.{lone_parts}
 use Rattle.jl_rely.proofs.Moving.{called_moves}
 use Rattle.jl_protocol.specs.Whole.{IsWhole}
 use Rattle.jl_store.specs.Publishing.{IsPublished}
-use Rattle.jl_store.specs.Keeping.{IsMakingEntry, moments_of, entry_in, file_of, last_of, temp_of, text_in, IsReadyFor, AreReady, IsMoments, IsAnyFile, HasPut, HasPutMoments, HasPutAll, HasFiles, Keeps, KeepsFile}
+use Rattle.jl_store.specs.Keeping.{IsMakingEntry, moments_of, entry_in, file_of, last_of, temp_of, text_in, IsReadyFor, AreReady, IsMoments, IsAnyFile, HasPut, HasPutMoments, HasPutAll, HasFiles, KeepsEntry, KeepsFile}
 use Rattle.jl_store.specs.declared.answer.Keep.TheVariants as keep
 use Rattle.jl_store.proofs.KeepFacts.{file_part, part_alone, keeps_then, keeps_ends, moments_ready, output_apart, output_split, files_then, includes_left, includes_right}
 use Rattle.jl_store.proofs.Orders.{order_then, order_output}
@@ -43,7 +43,7 @@ returns-in-Kept-clause-called g c t wholes =
       includes_right (token, Rename (temp_of e token Access) (last_of e Access)) xs ys b.1,
     ))
     (file_part e Output old mid text keep.Kept first)
-    (subst (λ k. Keeps e text (AreReady e k IsMoments) (HasPutMoments e k) c.keep_moments.result mid new) c.keep_file.ensures.frame.token (c.keep_moments.ensures.called (c.keep_file.ensures.frame.told t) wholes))
+    (subst (λ k. KeepsEntry e text (AreReady e k IsMoments) (HasPutMoments e k) c.keep_moments.result mid new) c.keep_file.ensures.frame.token (c.keep_moments.ensures.called (c.keep_file.ensures.frame.told t) wholes))
 
 pub returns-in-Kept-clause-alone : goal.returns-in-Kept-clause-alone
 returns-in-Kept-clause-alone g c t wholes is lone =

@@ -7,7 +7,7 @@ use Rattle.jl_rely.proofs.Alone.{lone_parts}
 use Rattle.jl_rely.proofs.Moving.{called_moves}
 use Rattle.jl_protocol.specs.Whole.{IsWhole}
 use Rattle.jl_store.specs.Publishing.{IsPublished}
-use Rattle.jl_store.specs.Keeping.{entry_in, file_of, last_of, temp_of, text_in, IsReadyFor, AreReady, IsMoments, HasPut, HasPutMoments, KeepsFile, Keeps}
+use Rattle.jl_store.specs.Keeping.{entry_in, file_of, last_of, temp_of, text_in, IsReadyFor, AreReady, IsMoments, HasPut, HasPutMoments, KeepsFile, KeepsEntry}
 use Rattle.jl_store.specs.declared.answer.Keep.TheVariants as keep
 use Rattle.jl_store.proofs.KeepFacts.{file_part, part_alone, keeps_then, keeps_ends, ready_on, files_then, includes_left, includes_right}
 use Rattle.jl_store.proofs.Orders.{moments_front, moments_then}
@@ -48,7 +48,7 @@ returns-in-Kept-clause-called g c t wholes =
     (λ ready. ready_on e Metadata Access (λ (is : Access ≡ Metadata). cc) old mid (called_moves _ _ _ _ _ old mid first.call) (ready Access (inr refl)))
     (λ xs ys a b. (includes_left (token, Rename (temp_of e token Metadata) (last_of e Metadata)) xs ys a, includes_right (token, Rename (temp_of e token Access) (last_of e Access)) xs ys b))
     (file_part e Metadata old mid text keep.Kept first)
-    (subst (λ k. Keeps e text (IsReadyFor e k Access) (HasPut e k Access) c.keep_file-in-Kept.result mid new) c.keep_file.ensures.frame.token second)
+    (subst (λ k. KeepsEntry e text (IsReadyFor e k Access) (HasPut e k Access) c.keep_file-in-Kept.result mid new) c.keep_file.ensures.frame.token second)
 
 pub returns-in-Kept-clause-alone : goal.returns-in-Kept-clause-alone
 returns-in-Kept-clause-alone g c t wholes is lone =

@@ -5,7 +5,7 @@ use Rattle.jl_folder.specs.Views.{state, moved}
 use Rattle.jl_entry.specs.declared.names.EntryFile.TheVariants.{Output, Metadata, Access}
 use Rattle.jl_rely.proofs.Since.{goes_then}
 use Rattle.jl_rely.proofs.Alone.{lone_parts}
-use Rattle.jl_store.specs.Keeping.{IsMakingEntry, lasts_of, entry_path, entry_in, function_path, last_of, temp_of, text_in, AreReady, IsAnyFile, IsReadyToKeep, HasPutAll, HasFiles, Keeps}
+use Rattle.jl_store.specs.Keeping.{IsMakingEntry, lasts_of, entry_path, entry_in, function_path, last_of, temp_of, text_in, AreReady, IsAnyFile, IsReadyToKeep, HasPutAll, HasFiles, KeepsEntry}
 use Rattle.jl_store.specs.declared.answer.Keep.TheVariants as keep
 use Rattle.jl_store.proofs.Drafts.{history_state}
 use Rattle.jl_store.proofs.KeepFacts.{keeps_then, keeps_ends, entry_has, includes_right}
@@ -37,7 +37,7 @@ returns-in-Kept-clause-called g c t wholes =
       includes_right (token, Rename (temp_of e token Access) (last_of e Access)) xs ys b.2,
     ))
     (c.in-Kept.ensures.called t text)
-    (subst (λ k. Keeps e text (AreReady e k IsAnyFile) (HasPutAll e k) c.keep_files.result mid new) same (c.keep_files.ensures.called (c.make_entry.ensures.frame.told t) wholes))
+    (subst (λ k. KeepsEntry e text (AreReady e k IsAnyFile) (HasPutAll e k) c.keep_files.result mid new) same (c.keep_files.ensures.called (c.make_entry.ensures.frame.told t) wholes))
 
 pub returns-in-Kept-clause-alone : goal.returns-in-Kept-clause-alone
 returns-in-Kept-clause-alone g c t wholes is lone =

@@ -8,7 +8,7 @@ use Rattle.jl_entry.specs.Names.{root_of, below}
 use Rattle.jl_rely.proofs.Since.{goes_none}
 use Rattle.jl_rely.proofs.Composed.{goes_call}
 use Rattle.jl_rely.proofs.Moving.{moves_none}
-use Rattle.jl_store.specs.Keeping.{IsMakingEntry, entry_in, entry_path, function_path, Keeps, made_of}
+use Rattle.jl_store.specs.Keeping.{IsMakingEntry, entry_in, entry_path, function_path, KeepsEntry, made_of}
 use Rattle.jl_store.specs.declared.answer.Keep.{Keep}
 use Rattle.jl_store.proofs.EntryMade.{made_only, made_keeps, made_ready, made_alone, made_fault}
 use Rattle.jl_store.proofs.KeepFacts.{nothing_keeps}
@@ -26,7 +26,7 @@ returns-in-Ok-clause-called g c t text =
     let new = g.F.Folder.view c.make_dir.new.self in
     let path : c.in-Ok.path ≡ entry_path e = c.in-Ok.ensures.path ∙ ap (λ m. below (root_of c.args.memory.now.location) (m ∷ c.args.name.now ∷ encode_lower c.args.key.now.0 ∷ [])) c.as_str.ensures in
     let call = subst (λ p. Call old new (MakesDir p c.make_dir.result)) path (c.make_dir.ensures.call t) in
-    subst (λ (r : Keep). Keeps e text (λ s. is_folder s (function_path e) ≡ true) (λ steps. Unit {0}) r old new) (sym c.made.ensures)
+    subst (λ (r : Keep). KeepsEntry e text (λ s. is_folder s (function_path e) ≡ true) (λ steps. Unit {0}) r old new) (sym c.made.ensures)
     (made_keeps e (c.requires.module_name, c.requires.function_name, c.in-Ok.ensures.key) old new c.make_dir.ensures.frame.token (ap is_token c.requires.token ∙ c.as_str-token.ensures.form) text c.make_dir.result call)
 
 pub returns-in-Ok-clause-ready : goal.returns-in-Ok-clause-ready
