@@ -6,7 +6,7 @@ use Rattle.jl_value.specs.declared.library.TaskError.{TaskError}
 use Rattle.jl_value.specs.declared.library.TaskError.TheVariants.{TooLong}
 use Rattle.jl_lexer.specs.declared.operators.Operator.{Operator}
 use Rattle.jl_lexer.specs.Words.{constant_of, key_in}
-use Rattle.jl_syntax.specs.Trees.{Expression, tall, leaf, bracketed, before, between, choice, index, call, span, list, each, filtered, table, Members, no_members, member, Entries, no_entries, entry}
+use Rattle.jl_lexer.specs.Trees.{Expression, tall, leaf, bracketed, before, between, choice, index, call, span, list, each, filtered, table, Members, no_members, member, Entries, no_entries, entry}
 use Rattle.jl_builtins.specs.declared.left_side.Settled.{Settled}
 use Rattle.jl_builtins.specs.declared.left_side.Settled.TheVariants.{Known, Open, Wrong, Both}
 use Rattle.jl_operands.specs.Steps.{Evaluated, done, failed, then', counted, operated, weight}

@@ -2,7 +2,7 @@
 use Rattle.std.proofs.Common.{◌≡◌, ℕ, List, [], ◌∷◌, sym, ap, ◌∙◌, subst}
 use Rattle.std.specs.Prelude.{Some, MatchResult, Result}
 use Rattle.jl_value.specs.Tree.{Tree}
-use Rattle.jl_syntax.specs.Trees.{Expression, each, filtered}
+use Rattle.jl_lexer.specs.Trees.{Expression, each, filtered}
 use Rattle.jl_operands.specs.declared.fault.CallFault.{CallFault}
 use Rattle.jl_operands.specs.declared.counting.Counted.{Counted}
 use Rattle.jl_operands.specs.Steps.{Evaluated, done, then'}

@@ -15,7 +15,7 @@ use Rattle.jl_value.specs.Canonical.{array_key}
 use Rattle.jl_value.specs.Proper.{AreKeys, keys}
 use Rattle.jl_value.specs.declared.value.Value.{Value}
 use Rattle.jl_lexer.specs.Words.{key_in}
-use Rattle.jl_syntax.specs.Trees.{Expression, entries_of}
+use Rattle.jl_lexer.specs.Trees.{Expression, entries_of}
 use Rattle.jl_operands.specs.Steps.{Evaluated, done, then'}
 use Rattle.jl_operands.specs.Lists.{with_entry}
 use Rattle.jl_lang.specs.Meaning.{value_of, entries_value}

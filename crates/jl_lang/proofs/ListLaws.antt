@@ -3,7 +3,7 @@ use Rattle.std.proofs.Common.{◌≡◌, ℕ, suc, ◌+◌, Bool, true, false, L
 use Rattle.std.specs.Prelude.{if◌then◌else◌, nat_lt, Some}
 use Rattle.jl_value.specs.Tree.{Tree, truth, list, Items, items_of}
 use Rattle.jl_value.specs.declared.library.TaskError.TheVariants.{TooLong}
-use Rattle.jl_syntax.specs.Trees.{Expression, each, filtered}
+use Rattle.jl_lexer.specs.Trees.{Expression, each, filtered}
 use Rattle.jl_operands.specs.Steps.{Evaluated, done, failed, then', counted, weight}
 use Rattle.jl_builtins.specs.Operations.{items_length}
 use Rattle.jl_operands.specs.Lists.{source_of, each_over, picked, filtered_over, over, LetsThrough}

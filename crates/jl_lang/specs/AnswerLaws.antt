@@ -14,7 +14,7 @@ use Rattle.jl_value.specs.declared.library.TaskError.TheVariants.{NoArgument, Ex
 use Rattle.jl_lexer.specs.declared.operators.Operator.{Operator}
 use Rattle.jl_lexer.specs.Signs.{is_digit}
 use Rattle.jl_lexer.specs.Words.{is_number, number_behind, has_leading_zero, true_word, false_word, none_word, if_text, quoted_in, text_in, named_constant, constant_of, key_in}
-use Rattle.jl_syntax.specs.Trees.{Expression, tall, leaf, bracketed, before, between, choice, index, call, span, list as listed, each, filtered, table as tabled, Members as Listing, no_members as none_listed, member as listing, Entries, no_entries, entry}
+use Rattle.jl_lexer.specs.Trees.{Expression, tall, leaf, bracketed, before, between, choice, index, call, span, list as listed, each, filtered, table as tabled, Members as Listing, no_members as none_listed, member as listing, Entries, no_entries, entry}
 use Rattle.jl_module.specs.Headings.{LineReading, bad, good, definition_in}
 use Rattle.jl_builtins.specs.declared.left_side.Settled.{Settled}
 use Rattle.jl_builtins.specs.declared.left_side.Settled.TheVariants.{Known, Open, Wrong, Both}

@@ -8,7 +8,7 @@ use Rattle.jl_value.specs.Library.{Answer, value, error}
 use Rattle.jl_value.specs.declared.library.TaskError.TheVariants.{NoArgument, ExtraArgument, BadKind, TooLong, TooDeep}
 use Rattle.jl_lexer.specs.declared.operators.Operator.{Operator}
 use Rattle.jl_lexer.specs.Words.{constant_of, key_in}
-use Rattle.jl_syntax.specs.Trees.{Expression, tall, leaf, bracketed, before, between, choice, index, call, span, list as listed, each, filtered, table as tabled, Members, no_members, member, Entries, no_entries, entry}
+use Rattle.jl_lexer.specs.Trees.{Expression, tall, leaf, bracketed, before, between, choice, index, call, span, list as listed, each, filtered, table as tabled, Members, no_members, member, Entries, no_entries, entry}
 use Rattle.jl_module.specs.Headings.{Definition, LineReading, bad, good, definition_in}
 use Rattle.jl_builtins.specs.declared.left_side.Settled.{Settled}
 use Rattle.jl_builtins.specs.declared.left_side.Settled.TheVariants.{Known, Open, Wrong, Both}

@@ -3,7 +3,7 @@ ghost use Rattle.std.specs.Prelude.{◌∷◌, [], Some, None, MatchResult};
 ghost use Rattle.jl_value.specs.Form.{tree_of, trees_of};
 ghost use Rattle.jl_value.specs.Tree.{whole};
 ghost use Rattle.jl_lexer.specs.Words.{constant_of};
-ghost use Rattle.jl_syntax.specs.Trees.{before as before_tree, between as between_tree, choice as choice_tree, index as index_tree, call as call_tree, span as span_tree, each as each_tree, filtered as filtered_tree, members_of, entries_of as entries_in};
+ghost use Rattle.jl_lexer.specs.Trees.{before as before_tree, between as between_tree, choice as choice_tree, index as index_tree, call as call_tree, span as span_tree, each as each_tree, filtered as filtered_tree, members_of, entries_of as entries_in};
 ghost use Rattle.jl_builtins.specs.declared.left_side.Settled.TheVariants.{Both};
 ghost use Rattle.jl_lang.specs.Meaning.{argument as argument_of, named as named_of, word_value as word_value_of, truth_counted as truth_counted_of, again, settled as settled_of, value_of, members_value, entries_value};
 ghost use Rattle.jl_builtins.specs.Operations.{settle as settle_of};
@@ -15,12 +15,11 @@ ghost use Rattle.jl_lang.specs.Outcomes.{IsTaken, IsLeft};
 
 use crate::scope::Scope;
 use jl_builtins::{Settled, call, element, operate, operate_prefix, settle, span};
-use jl_lexer::{Function, Key, Name, Operator, Prefix, Word};
+use jl_lexer::{Function, Key, Name, Node, Operator, Prefix, Tree, Word};
 use jl_operands::{
     CallFault, Counted, Gathered, Operand, Steps, count_copy, count_list, count_operand,
     count_table, count_value, source,
 };
-use jl_syntax::{Node, Tree};
 use jl_value::{TaskError, Value};
 use std::alloc::Global;
 use std::collections::BTreeMap;

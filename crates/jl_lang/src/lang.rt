@@ -11,9 +11,9 @@ ghost use Rattle.jl_lang.specs.Outcomes.{IsError};
 
 use crate::evaluator::evaluate;
 use crate::scope::Scope;
+use jl_lexer::Tree;
 use jl_module::{Definition, LineFault, Names, find, module_fault, read_definition};
 use jl_operands::{CallFault, Counted, Steps, nests_within};
-use jl_syntax::Tree;
 use jl_text::Text;
 use jl_value::{Args, Called, CodeRef, Library, Outcome, ReadModule, TaskError, Value, canonical};
 use std::alloc::{AllocError, Global};

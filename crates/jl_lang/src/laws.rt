@@ -1,7 +1,7 @@
 // Laws of what expressions and codes answer.
 ghost use Rattle.std.specs.Prelude.{◌≡◌, ◌≤◌, ◌∷◌, ℕ, List, length, Some};
 ghost use Rattle.jl_value.specs.Tree.{Tree, Items, list};
-ghost use Rattle.jl_syntax.specs.Trees.{Expression, each, filtered};
+ghost use Rattle.jl_lexer.specs.Trees.{Expression, each, filtered};
 ghost use Rattle.jl_operands.specs.Steps.{done};
 ghost use Rattle.jl_builtins.specs.Operations.{items_length};
 ghost use Rattle.jl_operands.specs.Lists.{source_of, LetsThrough};

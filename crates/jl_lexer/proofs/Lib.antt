@@ -1,3 +1,4 @@
 pub mod SignLemmas
 pub mod NumberLemmas
 pub mod TextLemmas
+pub mod HeightLemmas

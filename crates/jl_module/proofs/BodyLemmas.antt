@@ -3,16 +3,16 @@ use Rattle.std.proofs.Common.{◌≡◌, ℕ, ◌<◌, ◌≤◌, Bool, true, fa
 use Rattle.std.specs.Prelude.{nat_lt, if◌then◌else◌, ◌||◌, not, Some, Err}
 use Rattle.std.proofs.lemmas.Bool.{cases_lt}
 use Rattle.jl_value.specs.declared.library.ModuleFaultKind.TheVariants.{BadLine, BadName, TooDeep}
-use Rattle.jl_syntax.specs.declared.machine.Stop.{Stop}
-use Rattle.jl_syntax.specs.declared.machine.Stop.TheVariants.{Bad, Deep}
+use Rattle.jl_syntax.specs.declared.reader.Stop.{Stop}
+use Rattle.jl_syntax.specs.declared.reader.Stop.TheVariants.{Bad, Deep}
 use Rattle.jl_syntax.specs.Steps.{IsRead}
-use Rattle.jl_syntax.specs.Trees.{Expression, tall, height}
-use Rattle.jl_syntax.specs.Grammar.{IsFormed, words_of, brackets}
-use Rattle.jl_syntax.specs.Machine.{Read, read, broken, nested_deep, read_signs, kept}
+use Rattle.jl_lexer.specs.Trees.{Expression, tall, height, kept}
+use Rattle.jl_grammar.specs.Grammar.{IsFormed, words_of, brackets}
+use Rattle.jl_grammar.specs.Parser.{Read, read, broken, nested_deep, read_signs}
 use Rattle.jl_module.specs.Headings.{Heading, bad, good, has_repeat, are_known, judged, with_body, with_heading, heading_of, definition_in}
-use Rattle.jl_syntax.proofs.Completeness.{complete, lt_true}
-use Rattle.jl_syntax.proofs.Deepness.{too_deep, brackets_low}
-use Rattle.jl_syntax.proofs.Keeping.{keeps, kept_read, cut_read}
+use Rattle.jl_grammar.proofs.Completeness.{complete, lt_true}
+use Rattle.jl_grammar.proofs.Deepness.{too_deep, brackets_low}
+use Rattle.jl_grammar.proofs.Keeping.{keeps, kept_read, cut_read}
 
 read_same : (a b : Expression) → read a ≡ read b → a ≡ b
 read_same a b e = cc

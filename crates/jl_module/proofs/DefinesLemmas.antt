@@ -10,8 +10,8 @@ use Rattle.jl_value.specs.declared.library.ModuleFaultKind.TheVariants.{BadLine,
 use Rattle.jl_lexer.specs.Signs.{signs, begins_word, is_word_byte}
 use Rattle.jl_lexer.specs.Words.{def_word, is_identifier}
 use Rattle.jl_lexer.specs.Marks.{is_mark}
-use Rattle.jl_syntax.specs.Trees.{Expression, height}
-use Rattle.jl_syntax.specs.Machine.{Read, read, broken, nested_deep, read_signs}
+use Rattle.jl_lexer.specs.Trees.{Expression, height}
+use Rattle.jl_grammar.specs.Parser.{Read, read, broken, nested_deep, read_signs}
 use Rattle.jl_text.specs.declared.limits.TheConstants.{MOST_TEXT_BYTES}
 use Rattle.jl_module.specs.Headings.{Heading, Definition, LineReading, bad, good, has_repeat, are_known, judged, with_body, with_heading, heading_of, heading_in, with_parameters, parameters_in, body_behind, definition_in}
 use Rattle.jl_module.specs.Modules.{lines, trimmed, is_remark, Line, remark, faulty, defines, line_of, broken_line, read_line, fault_after_line, first_fault, fault_of, defines_in, begins_definition, Found, find_from, find, code_in, Defines}

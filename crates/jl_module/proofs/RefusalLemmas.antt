@@ -2,10 +2,10 @@
 use Rattle.std.proofs.Common.{◌≡◌, ℕ, ◌<◌, Bool, true, false, List, [], refl, arith}
 use Rattle.std.specs.Prelude.{nat_lt, if◌then◌else◌, ◌||◌, not, Option, Some, None}
 use Rattle.jl_value.specs.declared.library.ModuleFaultKind.TheVariants.{BadLine, BadName, TooDeep}
-use Rattle.jl_syntax.specs.Trees.{Expression, height}
-use Rattle.jl_syntax.specs.Machine.{Read, read, broken, nested_deep, read_signs}
-use Rattle.jl_syntax.proofs.Soundness.{sound}
-use Rattle.jl_syntax.proofs.OpenBrackets.{deepens, breaks}
+use Rattle.jl_lexer.specs.Trees.{Expression, height}
+use Rattle.jl_grammar.specs.Parser.{Read, read, broken, nested_deep, read_signs}
+use Rattle.jl_grammar.proofs.Soundness.{sound}
+use Rattle.jl_grammar.proofs.OpenBrackets.{deepens, breaks}
 use Rattle.jl_module.specs.Headings.{Heading, LineReading, bad, good, has_repeat, are_known, with_body, with_heading, heading_of, definition_in}
 use Rattle.jl_module.specs.Refusals.{IsTooDeep, opens, is_high, IsDeepLine, IsBadLine, headless, breaks_off}
 

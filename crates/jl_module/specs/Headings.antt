@@ -7,8 +7,8 @@ use Rattle.jl_value.specs.declared.library.ModuleFaultKind.TheVariants.{BadLine,
 use Rattle.jl_lexer.specs.Signs.{signs, begins_word}
 use Rattle.jl_lexer.specs.Words.{def_word, is_identifier}
 use Rattle.jl_lexer.specs.Marks.{is_mark}
-use Rattle.jl_syntax.specs.Trees.{Expression, tall, leaf, bracketed, before, between, choice, index, call, span, list, each, filtered, table, Members, no_members, member, Entries, no_entries, entry, height}
-use Rattle.jl_syntax.specs.Machine.{Read, read, broken, nested_deep, read_signs}
+use Rattle.jl_lexer.specs.Trees.{Expression, tall, leaf, bracketed, before, between, choice, index, call, span, list, each, filtered, table, Members, no_members, member, Entries, no_entries, entry, height}
+use Rattle.jl_grammar.specs.Parser.{Read, read, broken, nested_deep, read_signs}
 
 -- a word that is known, if it is a name
 abbrev pub is_known : List (List ℕ) → List ℕ → Bool

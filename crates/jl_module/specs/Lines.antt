@@ -8,8 +8,8 @@ use Rattle.jl_module.specs.declared.reader.Next.TheVariants.{Closed, Parameter, 
 use Rattle.jl_module.specs.declared.reader.Head.{Head}
 use Rattle.jl_lexer.specs.Signs.{signs}
 use Rattle.jl_module.specs.declared.reader.Definition.{Definition as Read}
-use Rattle.jl_syntax.specs.Trees.{Expression, height}
-use Rattle.jl_syntax.specs.Machine.{read, read_signs}
+use Rattle.jl_lexer.specs.Trees.{Expression, height}
+use Rattle.jl_grammar.specs.Parser.{read, read_signs}
 use Rattle.jl_module.specs.Headings.{with_body, Heading, Definition, LineReading, bad, good, more_parameters, heading_in, with_parameters, parameters_in}
 
 -- a bad line, where nothing was read

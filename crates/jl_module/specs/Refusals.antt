@@ -1,8 +1,8 @@
 -- Where a line is too deep, and where it is no definition.
 use Rattle.std.specs.Prelude.{◌≡◌, ◌<◌, ℕ, List, Some, None}
-use Rattle.jl_syntax.specs.Trees.{Expression, height}
-use Rattle.jl_syntax.specs.Grammar.{Writes}
-use Rattle.jl_syntax.specs.Fronts.{Deepens, Breaks}
+use Rattle.jl_lexer.specs.Trees.{Expression, height}
+use Rattle.jl_grammar.specs.Grammar.{Writes}
+use Rattle.jl_grammar.specs.Fronts.{Deepens, Breaks}
 use Rattle.jl_module.specs.Headings.{Heading, heading_of}
 
 -- signs that open more than 128 brackets, or whose tree is higher than 128

@@ -2,13 +2,12 @@
 ghost use Rattle.std.specs.Prelude.{◌≡◌, ◌∷◌, ◌&&◌, IfOk, map};
 ghost use Rattle.std.specs.List.{list_any};
 ghost use Rattle.std.specs.Str.{bytes_eq};
-ghost use Rattle.jl_syntax.specs.Trees.{members_of, entries_of, choice, each, filtered};
+ghost use Rattle.jl_lexer.specs.Trees.{members_of, entries_of, choice, each, filtered};
 ghost use Rattle.jl_module.specs.Headings.{are_known as are_known_of, members_known as members_known_of, entries_known as entries_known_of, is_known as is_known_of};
 ghost use Rattle.jl_module.specs.Scopes.{names_among};
 
 use crate::names::Names;
-use jl_lexer::{Key, Name, Word, is_identifier};
-use jl_syntax::{Node, Tree};
+use jl_lexer::{Key, Name, Node, Tree, Word, is_identifier};
 use std::alloc::{AllocError, Global};
 
 fn is_variable(variables: &[&[u8]], name: &[u8]) -> bool

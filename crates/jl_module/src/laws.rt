@@ -1,13 +1,13 @@
 // Laws of the lines of a module.
 ghost use Rattle.std.specs.Prelude.{◌≡◌, ℕ, List, Some, None};
-ghost use Rattle.jl_syntax.specs.Trees.{Expression};
+ghost use Rattle.jl_lexer.specs.Trees.{Expression};
 ghost use Rattle.jl_value.specs.declared.library.ModuleFaultKind.TheVariants.{BadLine, TooDeep};
 ghost use Rattle.jl_value.specs.Lines.{IsLine};
 ghost use Rattle.jl_module.specs.Headings.{Heading, with_body, judged, bad, definition_in};
 ghost use Rattle.jl_module.specs.Refusals.{IsDeepLine, IsBadLine};
 ghost use Rattle.jl_module.specs.Modules.{fault_of, code_in, Defines};
-ghost use Rattle.jl_syntax.specs.Grammar.{Writes};
-ghost use Rattle.jl_syntax.specs.Machine.{read_signs};
+ghost use Rattle.jl_grammar.specs.Grammar.{Writes};
+ghost use Rattle.jl_grammar.specs.Parser.{read_signs};
 
 /// A line of the grammar is judged by its tree.
 pub fn a_line_is_judged_by_its_tree()

@@ -7,8 +7,8 @@ ghost use Rattle.jl_module.specs.Lines.{IsReadingFault, IsFault, IsNext, IsNamel
 use crate::fault::LineFault;
 use crate::known::are_known;
 use crate::names::{Names, has_repeat};
-use jl_lexer::{begins_word, is_def, is_identifier, is_mark, next_sign};
-use jl_syntax::{Stop, Tree, read_expression};
+use jl_lexer::{Tree, begins_word, is_def, is_identifier, is_mark, next_sign};
+use jl_syntax::{Stop, read_expression};
 use jl_value::ModuleFaultKind;
 use std::alloc::Global;
 

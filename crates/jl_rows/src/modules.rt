@@ -1,9 +1,9 @@
 // Rows over the lines of the definition language.
 
+use jl_lexer::Node;
 use jl_module::{Definition, LineFault, find, module_fault, read_definition};
 use jl_script::given::{self, RowFault};
 use jl_script::told::{self, Told};
-use jl_syntax::Node;
 use jl_value::Value;
 use std::alloc::Global;
 

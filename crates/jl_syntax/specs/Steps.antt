@@ -1,10 +1,10 @@
 -- What the reader of an expression answers.
 use Rattle.std.specs.Prelude.{◌≡◌, Result, Ok, Err, ⊤}
-use Rattle.jl_syntax.specs.declared.machine.Reader.{Reader}
-use Rattle.jl_syntax.specs.declared.machine.Stop.{Stop}
-use Rattle.jl_syntax.specs.declared.machine.Stop.TheVariants.{Bad, Deep, NoMemory}
-use Rattle.jl_syntax.specs.Trees.{Expression}
-use Rattle.jl_syntax.specs.Machine.{Step, going, bad, deep, Read, read, broken, nested_deep}
+use Rattle.jl_syntax.specs.declared.reader.Reader.{Reader}
+use Rattle.jl_syntax.specs.declared.reader.Stop.{Stop}
+use Rattle.jl_syntax.specs.declared.reader.Stop.TheVariants.{Bad, Deep, NoMemory}
+use Rattle.jl_lexer.specs.Trees.{Expression}
+use Rattle.jl_grammar.specs.Parser.{Step, going, bad, deep, Read, read, broken, nested_deep}
 
 -- one sign more
 abbrev pub IsStep : Result Reader Stop → Step → Type 0

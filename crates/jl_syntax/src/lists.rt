@@ -1,24 +1,26 @@
 // Lists and tables, sign by sign.
 ghost use Rattle.std.specs.Prelude.{◌≡◌, ◌∷◌};
-ghost use Rattle.jl_syntax.specs.Machine.{emptied as emptied_of, unkeyed as unkeyed_of, looped_by, braced_by, keyed as keyed_of, no_key as no_key_of, valued as valued_of, varied as varied_of, sourced as sourced_of, kept};
+ghost use Rattle.jl_text.specs.declared.limits.TheConstants.{MOST_BRACKETS};
+ghost use Rattle.jl_grammar.specs.Parser.{at_empty_close, at_table, at_for, at_curly_close, at_key, at_empty_table, at_colon, at_variable, at_in};
+ghost use Rattle.jl_lexer.specs.Trees.{kept};
 ghost use Rattle.jl_syntax.specs.Steps.{IsStep};
-ghost use Rattle.jl_syntax.specs.Frames.{Listed};
+ghost use Rattle.jl_grammar.specs.Frames.{Listed};
 
-use crate::frames::{Frame, Single, Waiting};
-use crate::machine::{Mode, Operands, Reader, Stack, Stop, opened};
-use crate::tree::{Entries, Members, Tree};
-use jl_lexer::{Key, Name, is_identifier, is_mark};
+use crate::reader::{Reader, Stop, open_bracket};
+use jl_grammar::{Frame, Mode, Operands, Single, Stack, Waiting};
+use jl_lexer::{Entries, Key, Members, Name, Tree, is_identifier, is_mark};
+use jl_text::limits::MOST_BRACKETS;
 use std::alloc::Global;
 
 // A `]` behind the members of a list.
 #[tactic(auto, using(crate::proofs::EmptyLemmas::empty_laws))]
-fn emptied_list<'a>(members: Members<'a>, stack: Stack<'a>) -> Result<Reader<'a>, Stop>
-    ensures { IsStep result (emptied_of (Listed members.entry ∷ stack.entry)) }
+fn end_empty_list<'a>(members: Members<'a>, stack: Stack<'a>) -> Result<Reader<'a>, Stop>
+    ensures { IsStep result (at_empty_close (Listed members.entry ∷ stack.entry)) }
 {
     if members.as_slice().is_empty() {
         Ok(Reader {
             stack,
-            mode: Mode::Held(Tree::listed(members)),
+            mode: Mode::HasOperand(Tree::listed(members)),
         })
     } else {
         Err(Stop::Bad)
@@ -26,11 +28,11 @@ fn emptied_list<'a>(members: Members<'a>, stack: Stack<'a>) -> Result<Reader<'a>
 }
 
 // A `]` where a member of a list is wanted, behind what waits on top.
-fn emptied_at<'a>(frame: Frame<'a>, stack: Stack<'a>) -> Result<Reader<'a>, Stop>
-    ensures { IsStep result (emptied_of (frame.entry ∷ stack.entry)) }
+fn on_empty_close_at<'a>(frame: Frame<'a>, stack: Stack<'a>) -> Result<Reader<'a>, Stop>
+    ensures { IsStep result (at_empty_close (frame.entry ∷ stack.entry)) }
 {
     match frame.waiting {
-        Waiting::Members(members) => emptied_list(members, stack),
+        Waiting::Members(members) => end_empty_list(members, stack),
         other => {
             drop(other);
             Err(Stop::Bad)
@@ -39,36 +41,36 @@ fn emptied_at<'a>(frame: Frame<'a>, stack: Stack<'a>) -> Result<Reader<'a>, Stop
 }
 
 /// A `]` where a member of a list is wanted.
-pub(crate) fn emptied(stack: Stack<'_>) -> Result<Reader<'_>, Stop>
-    ensures { IsStep result (emptied_of stack.entry) }
+pub(crate) fn on_empty_close(stack: Stack<'_>) -> Result<Reader<'_>, Stop>
+    ensures { IsStep result (at_empty_close stack.entry) }
 {
     match stack.pop() {
-        Some(top) => emptied_at(top.frame, top.stack),
+        Some(top) => on_empty_close_at(top.frame, top.stack),
         None => Err(Stop::Bad),
     }
 }
 
 /// A `{` where an operand is wanted.
-pub(crate) fn unkeyed(alloc: Global, stack: Stack<'_>) -> Result<Reader<'_>, Stop>
-    ensures { IsStep result (unkeyed_of 128 stack.entry) }
+pub(crate) fn begin_table(alloc: Global, stack: Stack<'_>) -> Result<Reader<'_>, Stop>
+    ensures { IsStep result (at_table MOST_BRACKETS stack.entry) }
 {
-    if stack.depth() >= 128 {
+    if stack.depth() >= MOST_BRACKETS {
         return Err(Stop::Deep);
     }
     Ok(Reader {
         stack,
-        mode: Mode::Key(Entries::new(alloc)),
+        mode: Mode::WantsKey(Entries::new(alloc)),
     })
 }
 
 // A `for` behind an operand and the members of a list.
 #[tactic(auto, using(crate::proofs::EmptyLemmas::empty_laws))]
-fn looped_list<'a>(
+fn begin_source<'a>(
     members: Members<'a>,
     stack: Stack<'a>,
     tree: Tree<'a>,
 ) -> Result<Reader<'a>, Stop>
-    ensures { IsStep result (looped_by (Listed members.entry ∷ stack.entry) tree.entry) }
+    ensures { IsStep result (at_for (Listed members.entry ∷ stack.entry) tree.entry) }
 {
     let none = members.as_slice().is_empty();
     drop(members);
@@ -77,16 +79,16 @@ fn looped_list<'a>(
     }
     Ok(Reader {
         stack,
-        mode: Mode::Each(tree),
+        mode: Mode::WantsVariable(tree),
     })
 }
 
 // A `for` behind an operand and what waits on top.
-fn looped_at<'a>(frame: Frame<'a>, stack: Stack<'a>, tree: Tree<'a>) -> Result<Reader<'a>, Stop>
-    ensures { IsStep result (looped_by (frame.entry ∷ stack.entry) tree.entry) }
+fn on_for_at<'a>(frame: Frame<'a>, stack: Stack<'a>, tree: Tree<'a>) -> Result<Reader<'a>, Stop>
+    ensures { IsStep result (at_for (frame.entry ∷ stack.entry) tree.entry) }
 {
     match frame.waiting {
-        Waiting::Members(members) => looped_list(members, stack, tree),
+        Waiting::Members(members) => begin_source(members, stack, tree),
         other => {
             drop(other);
             Err(Stop::Bad)
@@ -95,24 +97,28 @@ fn looped_at<'a>(frame: Frame<'a>, stack: Stack<'a>, tree: Tree<'a>) -> Result<R
 }
 
 /// A `for` behind an operand.
-pub(crate) fn looped(operands: Operands<'_>) -> Result<Reader<'_>, Stop>
-    ensures { IsStep result (looped_by operands.entry.stack operands.entry.tree) }
+pub(crate) fn on_for(operands: Operands<'_>) -> Result<Reader<'_>, Stop>
+    ensures { IsStep result (at_for operands.entry.stack operands.entry.tree) }
 {
     let Operands { stack, tree } = operands;
     match stack.pop() {
-        Some(top) => looped_at(top.frame, top.stack, tree),
+        Some(top) => on_for_at(top.frame, top.stack, tree),
         None => Err(Stop::Bad),
     }
 }
 
 // A `}` behind an operand and what waits on top.
-fn braced_at<'a>(frame: Frame<'a>, stack: Stack<'a>, tree: Tree<'a>) -> Result<Reader<'a>, Stop>
-    ensures { IsStep result (braced_by kept (frame.entry ∷ stack.entry) tree.entry) }
+fn on_curly_close_at<'a>(
+    frame: Frame<'a>,
+    stack: Stack<'a>,
+    tree: Tree<'a>,
+) -> Result<Reader<'a>, Stop>
+    ensures { IsStep result (at_curly_close kept (frame.entry ∷ stack.entry) tree.entry) }
 {
     match frame.waiting {
         Waiting::Entries(entries, key) => Ok(Reader {
             stack,
-            mode: Mode::Held(Tree::tabled(entries.with(key, tree)?)),
+            mode: Mode::HasOperand(Tree::tabled(entries.with(key, tree)?)),
         }),
         other => {
             drop(other);
@@ -122,20 +128,24 @@ fn braced_at<'a>(frame: Frame<'a>, stack: Stack<'a>, tree: Tree<'a>) -> Result<R
 }
 
 /// A `}` behind an operand.
-pub(crate) fn braced(operands: Operands<'_>) -> Result<Reader<'_>, Stop>
-    ensures { IsStep result (braced_by kept operands.entry.stack operands.entry.tree) }
+pub(crate) fn on_curly_close(operands: Operands<'_>) -> Result<Reader<'_>, Stop>
+    ensures { IsStep result (at_curly_close kept operands.entry.stack operands.entry.tree) }
 {
     let Operands { stack, tree } = operands;
     match stack.pop() {
-        Some(top) => braced_at(top.frame, top.stack, tree),
+        Some(top) => on_curly_close_at(top.frame, top.stack, tree),
         None => Err(Stop::Bad),
     }
 }
 
 // A `}` where a key of a table is wanted.
 #[tactic(auto, using(crate::proofs::EmptyLemmas::empty_laws))]
-fn no_key<'a>(stack: Stack<'a>, entries: Entries<'a>, sign: &[u8]) -> Result<Reader<'a>, Stop>
-    ensures { IsStep result (no_key_of stack.entry entries.entry sign.now) }
+fn end_empty_table<'a>(
+    stack: Stack<'a>,
+    entries: Entries<'a>,
+    sign: &[u8],
+) -> Result<Reader<'a>, Stop>
+    ensures { IsStep result (at_empty_table stack.entry entries.entry sign.now) }
 {
     if !entries.as_slice().is_empty() {
         return Err(Stop::Bad);
@@ -145,56 +155,56 @@ fn no_key<'a>(stack: Stack<'a>, entries: Entries<'a>, sign: &[u8]) -> Result<Rea
     }
     Ok(Reader {
         stack,
-        mode: Mode::Held(Tree::tabled(entries)),
+        mode: Mode::HasOperand(Tree::tabled(entries)),
     })
 }
 
 /// A sign where a key of a table is wanted.
-pub(crate) fn keyed<'a>(
+pub(crate) fn on_key<'a>(
     alloc: Global,
     stack: Stack<'a>,
     entries: Entries<'a>,
     sign: &'a [u8],
 ) -> Result<Reader<'a>, Stop>
-    ensures { IsStep result (keyed_of stack.entry entries.entry sign.now) }
+    ensures { IsStep result (at_key stack.entry entries.entry sign.now) }
 {
     match Key::read(alloc, sign)? {
         Some(key) => Ok(Reader {
             stack,
-            mode: Mode::Colon(entries, key),
+            mode: Mode::WantsColon(entries, key),
         }),
-        None => no_key(stack, entries, sign),
+        None => end_empty_table(stack, entries, sign),
     }
 }
 
 /// A sign behind a key of a table.
-pub(crate) fn valued<'a>(
+pub(crate) fn on_colon<'a>(
     stack: Stack<'a>,
     entries: Entries<'a>,
     key: Key<'a>,
     sign: &[u8],
 ) -> Result<Reader<'a>, Stop>
-    ensures { IsStep result (valued_of 128 stack.entry entries.entry key.entry sign.now) }
+    ensures { IsStep result (at_colon MOST_BRACKETS stack.entry entries.entry key.entry sign.now) }
 {
     if is_mark(sign, b':') {
-        opened(Frame::keyed(entries, key), stack)
+        open_bracket(Frame::keyed(entries, key), stack)
     } else {
         Err(Stop::Bad)
     }
 }
 
 /// A sign where the variable of a list is wanted.
-pub(crate) fn varied<'a>(
+pub(crate) fn on_variable<'a>(
     stack: Stack<'a>,
     member: Tree<'a>,
     sign: &'a [u8],
 ) -> Result<Reader<'a>, Stop>
-    ensures { IsStep result (varied_of stack.entry member.entry sign.now) }
+    ensures { IsStep result (at_variable stack.entry member.entry sign.now) }
 {
     if is_identifier(sign) {
         Ok(Reader {
             stack,
-            mode: Mode::Naming(member, Name::new(sign)),
+            mode: Mode::WantsIn(member, Name::new(sign)),
         })
     } else {
         Err(Stop::Bad)
@@ -202,16 +212,16 @@ pub(crate) fn varied<'a>(
 }
 
 /// A sign behind the variable of a list.
-pub(crate) fn sourced<'a>(
+pub(crate) fn on_in<'a>(
     stack: Stack<'a>,
     member: Tree<'a>,
     variable: Name<'a>,
     sign: &[u8],
 ) -> Result<Reader<'a>, Stop>
-    ensures { IsStep result (sourced_of 128 stack.entry member.entry variable.entry sign.now) }
+    ensures { IsStep result (at_in MOST_BRACKETS stack.entry member.entry variable.entry sign.now) }
 {
     if sign == b"in".as_slice() {
-        opened(
+        open_bracket(
             Frame::single(Single::Source(variable.bytes()), member),
             stack,
         )

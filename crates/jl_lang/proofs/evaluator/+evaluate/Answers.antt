@@ -5,8 +5,8 @@ use Rattle.std.proofs.lemmas.Int.{to_z-of_z, ints}
 use Rattle.jl_value.specs.Tree.{whole}
 use Rattle.jl_operands.specs.Lists.{wholes}
 use Rattle.jl_value.specs.Form.{tree_of, trees_of}
-use Rattle.jl_syntax.specs.Trees.{entries_of}
-use Rattle.jl_syntax.proofs.HeightLemmas.{member_height, entry_height}
+use Rattle.jl_lexer.specs.Trees.{entries_of}
+use Rattle.jl_lexer.proofs.HeightLemmas.{member_height, entry_height}
 use Rattle.jl_operands.specs.Steps.{done}
 use Rattle.jl_operands.specs.Operands.{tree_of_operand, trees_gathered}
 use Rattle.jl_operands.specs.Outcomes.{pairs_in}

@@ -2,7 +2,7 @@ use Rattle.std.proofs.Common.{◌≡◌, ◌+◌, ◌*◌, max, [], ◌∷◌, d
 use Rattle.jl_value.specs.Tree.{members_of as pairs_of}
 use Rattle.jl_value.specs.Form.{trees_of}
 use Rattle.jl_value.specs.Proper.{AreKeys, keys}
-use Rattle.jl_syntax.specs.Trees.{height, members_of, members_height, entries_of, entries_height}
+use Rattle.jl_lexer.specs.Trees.{height, members_of, members_height, entries_of, entries_height}
 use Rattle.jl_operands.specs.Lists.{each_over, filtered_over, wholes}
 use Rattle.jl_operands.specs.Operands.{trees_gathered}
 use Rattle.jl_lang.specs.Meaning.{value_of, members_value, entries_value}

@@ -1,5 +1,5 @@
 use Rattle.std.proofs.Common.{arith}
-use Rattle.jl_syntax.proofs.HeightLemmas.{member_height, entry_height}
+use Rattle.jl_lexer.proofs.HeightLemmas.{member_height, entry_height}
 use Rattle.jl_module.proofs.known.+known.Goals as goal
 
 pub members_known-are_known-requires : goal.members_known-are_known-requires

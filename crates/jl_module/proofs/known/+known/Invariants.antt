@@ -1,5 +1,5 @@
 use Rattle.std.proofs.Common.{◌≡◌, ◌+◌, ◌*◌, max, drop}
-use Rattle.jl_syntax.specs.Trees.{members_of, entries_of, height, members_height, entries_height}
+use Rattle.jl_lexer.specs.Trees.{members_of, entries_of, height, members_height, entries_height}
 use Rattle.jl_module.specs.Headings.{members_known, entries_known}
 use Rattle.jl_module.specs.Scopes.{names_among}
 use Rattle.jl_module.proofs.known.+known.Given as goal

@@ -1,6 +1,6 @@
 use Rattle.std.proofs.Common.{◌≤◌, arith}
 use Rattle.jl_lexer.specs.Signs.{signs}
-use Rattle.jl_syntax.specs.Trees.{height}
+use Rattle.jl_lexer.specs.Trees.{height}
 use Rattle.jl_module.proofs.BodyLemmas.{body_read, body_high, stop_broken, stop_deep}
 use Rattle.jl_module.proofs.reader.read_body.Goals as goal
 

@@ -1,0 +1,6 @@
+pub mod ListLemmas
+pub mod Completeness
+pub mod Soundness
+pub mod Keeping
+pub mod Deepness
+pub mod OpenBrackets

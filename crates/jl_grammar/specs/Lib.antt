@@ -1,0 +1,6 @@
+pub mod Frames
+pub mod FrameForm
+pub mod FrameCodes
+pub mod Parser
+pub mod Grammar
+pub mod Fronts

@@ -1,5 +1,0 @@
-use Rattle.jl_syntax.proofs.Soundness.{sound}
-use Rattle.jl_syntax.proofs.laws.what_is_read_is_written.Goals as goal
-
-pub returns : goal.returns
-returns c = λ ws e h. let d = sound 128 ws e h in record { formed = d.0; words = d.1 }
