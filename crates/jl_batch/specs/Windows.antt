@@ -6,6 +6,7 @@ use Rattle.jl_batch.specs.declared.pre_dispatch.PreDispatchFault.{PreDispatchFau
 use Rattle.jl_batch.specs.declared.pre_dispatch.PreDispatchFault.TheVariants.{BadExpression, BelowOne}
 use Rattle.jl_batch.specs.declared.lexer.Lexeme.{Lexeme}
 use Rattle.jl_batch.specs.declared.parser.TheConstants.{MOST_DEPTH}
+use Rattle.jl_batch.specs.declared.pre_dispatch.TheConstants.{MOST_WINDOW}
 use Rattle.jl_batch.specs.Lexemes.{HasLexemes}
 use Rattle.jl_batch.specs.Expressions.{Formula, Spells, a_sum, worth_of}
 
@@ -19,7 +20,7 @@ IsWorth text jobs v = (ss : List Lexeme) × (e : Formula) × HasLexemes text ss 
 
 -- what a value asks for: one task at least, and above 1,000,000 as many
 abbrev pub window_at : ℤ → Result Window PreDispatchFault
-window_at v = if int_lt v (pos 1) then Err BelowOne else Ok (Tasks (min (unsigned_abs v) 1000000))
+window_at v = if int_lt v (pos 1) then Err BelowOne else Ok (Tasks (min (unsigned_abs v) MOST_WINDOW))
 
 -- a window that the text asks for
 abbrev pub IsAskedFor : List ℕ → ℕ → Window → Type 0

@@ -14,7 +14,7 @@ use crate::window::Window;
 use thiserror::Error;
 
 /// More tasks than these are not in flight at once.
-const MOST_WINDOW: i64 = 1_000_000;
+const MOST_WINDOW: u32 = 1_000_000;
 
 /// Why a text is no window.
 #[derive(Debug, Drop, Clone, Copy, PartialEq, Eq, Error)]
@@ -60,7 +60,7 @@ fn window_at(value: i64) -> Result<Window, PreDispatchFault>
     if value < 1 {
         return Err(PreDispatchFault::BelowOne);
     }
-    Ok(Window::Tasks(value.min(MOST_WINDOW) as u32))
+    Ok(Window::Tasks(value.min(i64::from(MOST_WINDOW)) as u32))
 }
 
 #[tactic(auto, unfolding(crate::specs::Windows::all_word))]
