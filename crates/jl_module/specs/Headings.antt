@@ -2,6 +2,7 @@
 use Rattle.std.specs.Prelude.{ℕ, Bool, true, false, not, ◌&&◌, ◌||◌, nat_lt, if◌then◌else◌, List, [], ◌∷◌, ◌++◌, Option, Some, None}
 use Rattle.std.specs.List.{list_any}
 use Rattle.std.specs.Str.{bytes_eq}
+use Rattle.jl_text.specs.declared.limits.TheConstants.{MOST_BRACKETS}
 use Rattle.jl_value.specs.declared.library.ModuleFaultKind.{ModuleFaultKind}
 use Rattle.jl_value.specs.declared.library.ModuleFaultKind.TheVariants.{BadLine, BadName, TooDeep}
 use Rattle.jl_lexer.specs.Signs.{signs, begins_word}
@@ -97,7 +98,7 @@ pub data LineReading : Type 0 where
 
 -- a tree may be 128 high, no parameter stands twice, and each name is a parameter
 abbrev pub judged : Heading → Expression → LineReading
-judged h e = if nat_lt 128 (height e) then bad TooDeep else (if has_repeat [] h.parameters || not (are_known h.parameters e) then bad BadName else good (record { name = h.name; parameters = h.parameters; body = e }))
+judged h e = if nat_lt MOST_BRACKETS (height e) then bad TooDeep else (if has_repeat [] h.parameters || not (are_known h.parameters e) then bad BadName else good (record { name = h.name; parameters = h.parameters; body = e }))
 
 -- a heading and what was read of its expression
 abbrev pub with_body : Heading → Read → LineReading

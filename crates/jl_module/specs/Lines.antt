@@ -1,5 +1,6 @@
 -- What the readers of a line answer.
 use Rattle.std.specs.Prelude.{◌≡◌, ℕ, List, [], ◌∷◌, ◌++◌, length, ◌<◌, ◌≤◌, Option, Some, None, ⊤}
+use Rattle.jl_text.specs.declared.limits.TheConstants.{MOST_BRACKETS}
 use Rattle.jl_value.specs.declared.library.ModuleFaultKind.TheVariants.{BadLine}
 use Rattle.jl_module.specs.declared.fault.LineFault.{LineFault}
 use Rattle.jl_module.specs.declared.fault.LineFault.TheVariants.{Faulty, Memory}
@@ -50,7 +51,7 @@ IsDefinition d r = r ≡ good (definition_read d)
 
 -- the tree of an expression, which is no higher than 128
 abbrev pub IsBody : Expression → List (List ℕ) → Type 0
-IsBody t ws = (read_signs ws ≡ read t) × (height t ≤ 128)
+IsBody t ws = (read_signs ws ≡ read t) × (height t ≤ MOST_BRACKETS)
 
 -- why there is none
 abbrev pub IsNoBody : LineFault → List (List ℕ) → Type 0

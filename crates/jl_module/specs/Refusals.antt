@@ -3,12 +3,13 @@ use Rattle.std.specs.Prelude.{◌≡◌, ◌<◌, ℕ, List, Some, None}
 use Rattle.jl_lexer.specs.Trees.{Expression, height}
 use Rattle.jl_grammar.specs.Grammar.{Writes}
 use Rattle.jl_grammar.specs.Fronts.{Deepens, Breaks}
+use Rattle.jl_text.specs.declared.limits.TheConstants.{MOST_BRACKETS}
 use Rattle.jl_module.specs.Headings.{Heading, heading_of}
 
 -- signs that open more than 128 brackets, or whose tree is higher than 128
 pub data IsTooDeep (ws : List (List ℕ)) : Type 0 where
   opens : Deepens ws → IsTooDeep ws
-  is_high : (e : Expression) → Writes ws e → 128 < height e → IsTooDeep ws
+  is_high : (e : Expression) → Writes ws e → MOST_BRACKETS < height e → IsTooDeep ws
 
 -- a line with a heading whose expression is too deep
 pub record IsDeepLine (line : List ℕ) : Type 0 where

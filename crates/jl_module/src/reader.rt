@@ -9,6 +9,7 @@ use crate::known::are_known;
 use crate::names::{Names, has_repeat};
 use jl_lexer::{Tree, begins_word, is_def, is_identifier, is_mark, next_sign};
 use jl_syntax::{Stop, read_expression};
+use jl_text::limits::MOST_BRACKETS;
 use jl_value::ModuleFaultKind;
 use std::alloc::Global;
 
@@ -156,7 +157,7 @@ fn read_body<'a>(alloc: Global, bytes: &'a [u8]) -> Result<Tree<'a>, LineFault>
 {
     match read_expression(alloc, bytes) {
         Ok(tree) => {
-            if tree.height() > 128 {
+            if tree.height() > MOST_BRACKETS {
                 Err(LineFault::Faulty(ModuleFaultKind::TooDeep))
             } else {
                 Ok(tree)
