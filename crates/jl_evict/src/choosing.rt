@@ -1,5 +1,5 @@
 // Which items go.
-ghost use Rattle.std.specs.Prelude.{◌≡◌, ◌↔◌, ◌≤◌, ◌+◌, ◌*◌, ℕ, length, take, drop, sum_by, IsTrue, Some};
+ghost use Rattle.std.specs.Prelude.{◌≡◌, ◌↔◌, ◌≤◌, ◌+◌, ◌-◌, ◌*◌, ◌^◌, ℕ, length, take, drop, sum_by, IsTrue, Some};
 ghost use Rattle.std.specs.List.Sorted.{IsPermutation, IsSorted};
 ghost use Rattle.jl_evict.specs.Choosing.{item_cmp, bytes_of, excess, IsSpared, IsShortest};
 
@@ -27,7 +27,7 @@ fn sort_items(items: &mut Vec<Item>)
 
 fn total_bytes(items: &[Item]) -> u128
     ensures total { result ≡ bytes_of items.now }
-    ensures room { result ≤ 18446744073709551615 * length items.now }
+    ensures room { result ≤ (2 ^ 64 - 1) * length items.now }
 {
     let mut total: u128 = 0;
     for item in items {
