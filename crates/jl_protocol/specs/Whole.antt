@@ -1,5 +1,5 @@
 -- What bytes may stand under a final name, and which of them are true.
-use Rattle.std.specs.Prelude.{◌≡◌, ◌≤◌, ℕ, List, length, ⊤}
+use Rattle.std.specs.Prelude.{◌≡◌, ◌≤◌, ◌<◌, ◌^◌, ℕ, List, length, ⊤}
 use Rattle.hex.specs.Hex.{encode_lower}
 use Rattle.jl_text.specs.declared.limits.TheConstants.{MOST_ENTRY_BYTES}
 use Rattle.jl_value.specs.Tree.{Tree}
@@ -18,7 +18,7 @@ most_bytes = MOST_ENTRY_BYTES
 
 -- The bytes are a text of the file's format: of a code of one line, whose line's number has 64 bits; of an entry of arguments with its folder's key; of a duration and a moment; of a moment.
 abbrev pub IsOfFormat : Final → List ℕ → Type 0
-IsOfFormat (code_of m f) bytes = (code : List ℕ) × (line : ℕ) × (1 ≤ line) × (line ≤ 18446744073709551615) × IsLine code × (bytes ≡ code_text code line)
+IsOfFormat (code_of m f) bytes = (code : List ℕ) × (line : ℕ) × (1 ≤ line) × (line < 2 ^ 64) × IsLine code × (bytes ≡ code_text code line)
 IsOfFormat (entry_of Output m f k) bytes = (code : List ℕ) × (ps : Members) × (t : Tree) × (encode_lower (key_of ps) ≡ k) × IsEntryOf bytes code ps t
 IsOfFormat (entry_of Metadata m f k) bytes = (duration time : ℕ) × IsMetadata bytes duration time
 IsOfFormat (entry_of Access m f k) bytes = (moment : ℕ) × IsAccess bytes moment
