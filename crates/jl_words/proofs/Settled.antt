@@ -10,6 +10,7 @@ use Rattle.jl_words.specs.Commands.{call_with, call_of, hash_of, places_of, jobs
 use Rattle.jl_words.specs.Settings.{settings_of, module_path}
 use Rattle.jl_words.specs.declared.types.Settings.{Settings}
 use Rattle.jl_words.specs.declared.types.Settings.TheVariants as set
+use Rattle.jl_words.specs.declared.commands.TheConstants.{MOST_FROM, MOST_COUNT}
 use Rattle.jl_words.specs.declared.command.Command.{Command}
 use Rattle.jl_words.specs.declared.command.Command.TheVariants.{Call, Hash, Parallel, Session, Clear, ReduceSize, Worker, Tracker, Gen}
 
@@ -107,10 +108,10 @@ alone_named ReduceSize cpus s = then_named (λ l. option_map (λ m. set.ReduceSi
     map_named (λ m. set.ReduceSize l m) (limits_of s) (λ m _. no_module (set.ReduceSize l m) refl))
 alone_named Worker cpus s = some_named set.Worker (no_module set.Worker refl)
 alone_named Tracker cpus s = some_named set.Tracker (no_module set.Tracker refl)
-alone_named Gen cpus s = then_named (λ l. option_and_then (λ f. option_map (λ n. set.Gen l f n) (required (count_up_to 1000000) (s.value (codes "count")))) (required (count_up_to 2147483647) (s.value (codes "from"))))
+alone_named Gen cpus s = then_named (λ l. option_and_then (λ f. option_map (λ n. set.Gen l f n) (required (count_up_to MOST_COUNT) (s.value (codes "count")))) (required (count_up_to MOST_FROM) (s.value (codes "from"))))
     (required path_in (s.value (codes "location"))) (λ l _.
-    then_named (λ f. option_map (λ n. set.Gen l f n) (required (count_up_to 1000000) (s.value (codes "count")))) (required (count_up_to 2147483647) (s.value (codes "from"))) (λ f _.
-    map_named (λ n. set.Gen l f n) (required (count_up_to 1000000) (s.value (codes "count"))) (λ n _. no_module (set.Gen l f n) refl)))
+    then_named (λ f. option_map (λ n. set.Gen l f n) (required (count_up_to MOST_COUNT) (s.value (codes "count")))) (required (count_up_to MOST_FROM) (s.value (codes "from"))) (λ f _.
+    map_named (λ n. set.Gen l f n) (required (count_up_to MOST_COUNT) (s.value (codes "count"))) (λ n _. no_module (set.Gen l f n) refl)))
 
 without_named : (plain : List Text) (o : Option Settings) → AllNamed o → AllNamed (without_plain plain o)
 without_named [] o n = n

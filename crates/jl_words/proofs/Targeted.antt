@@ -11,6 +11,7 @@ use Rattle.jl_words.specs.Commands.{call_with, hash_of, places_of, jobs_given, f
 use Rattle.jl_words.specs.Settings.{settings_of}
 use Rattle.jl_words.specs.declared.types.Settings.{Settings}
 use Rattle.jl_words.specs.declared.types.Settings.TheVariants as set
+use Rattle.jl_words.specs.declared.commands.TheConstants.{MOST_FROM, MOST_COUNT}
 use Rattle.jl_words.specs.declared.command.Command.{Command}
 use Rattle.jl_words.specs.declared.command.Command.TheVariants.{Call, Hash, Parallel, Session, Clear, ReduceSize, Worker, Tracker, Gen}
 use Rattle.jl_words.specs.Targets.{Targets}
@@ -75,10 +76,10 @@ alone_all ReduceSize cpus s = then_all (λ l. option_map (λ m. set.ReduceSize l
     map_all (λ m. set.ReduceSize l m) (limits_of s) (λ m _. tt))
 alone_all Worker cpus s = some_all set.Worker tt
 alone_all Tracker cpus s = some_all set.Tracker tt
-alone_all Gen cpus s = then_all (λ l. option_and_then (λ f. option_map (λ n. set.Gen l f n) (required (count_up_to 1000000) (s.value (codes "count")))) (required (count_up_to 2147483647) (s.value (codes "from"))))
+alone_all Gen cpus s = then_all (λ l. option_and_then (λ f. option_map (λ n. set.Gen l f n) (required (count_up_to MOST_COUNT) (s.value (codes "count")))) (required (count_up_to MOST_FROM) (s.value (codes "from"))))
     (required path_in (s.value (codes "location"))) (λ l _.
-    then_all (λ f. option_map (λ n. set.Gen l f n) (required (count_up_to 1000000) (s.value (codes "count")))) (required (count_up_to 2147483647) (s.value (codes "from"))) (λ f _.
-    map_all (λ n. set.Gen l f n) (required (count_up_to 1000000) (s.value (codes "count"))) (λ n _. tt)))
+    then_all (λ f. option_map (λ n. set.Gen l f n) (required (count_up_to MOST_COUNT) (s.value (codes "count")))) (required (count_up_to MOST_FROM) (s.value (codes "from"))) (λ f _.
+    map_all (λ n. set.Gen l f n) (required (count_up_to MOST_COUNT) (s.value (codes "count"))) (λ n _. tt)))
 
 without_all : (plain : List Text) (o : Option Settings) → AllTargets o → AllTargets (without_plain plain o)
 without_all [] o n = n

@@ -14,6 +14,7 @@ use Rattle.jl_words.specs.declared.types.Backend.{Backend}
 use Rattle.jl_words.specs.declared.types.Mode.{Mode}
 use Rattle.jl_words.specs.declared.types.Settings.{Settings}
 use Rattle.jl_words.specs.declared.types.Settings.TheVariants as set
+use Rattle.jl_words.specs.declared.commands.TheConstants.{MOST_FROM, MOST_COUNT}
 use Rattle.jl_words.specs.declared.command.Command.{Command}
 use Rattle.jl_words.specs.declared.command.Command.TheVariants.{Call, Hash, Parallel, Session, Clear, ReduceSize, Worker, Tracker, Gen}
 
@@ -120,8 +121,8 @@ reduce_of s = option_and_then (λ l. option_map (λ m. set.ReduceSize l m) (limi
 
 -- `gen --location DIR --from N --count N`
 abbrev pub gen_of : Said → Option Settings
-gen_of s = option_and_then (λ l. option_and_then (λ f. option_map (λ n. set.Gen l f n) (required (count_up_to 1000000) (s.value (codes "count"))))
-    (required (count_up_to 2147483647) (s.value (codes "from")))) (required path_in (s.value (codes "location")))
+gen_of s = option_and_then (λ l. option_and_then (λ f. option_map (λ n. set.Gen l f n) (required (count_up_to MOST_COUNT) (s.value (codes "count"))))
+    (required (count_up_to MOST_FROM) (s.value (codes "from")))) (required path_in (s.value (codes "location")))
 
 -- what the options of a command without plain words set
 abbrev pub set_alone_by : Command → ℕ → Said → Option Settings

@@ -13,6 +13,12 @@ use jl_quota::{Limits, read_age, read_count, read_size};
 use jl_text::{Path, Text, is_name};
 use std::alloc::{AllocError, Global};
 
+/// The largest number that `gen` begins from.
+const MOST_FROM: u64 = 2_147_483_647;
+
+/// The most values that `gen` computes.
+const MOST_COUNT: u64 = 1_000_000;
+
 fn text(alloc: Global, word: &str) -> Result<Text, AllocError>
     ensures { IfOk result (λ t. t ≡ word.now) }
 {
@@ -224,10 +230,10 @@ pub(crate) fn generate(alloc: Global, parts: &Parts<'_>) -> Result<Settings, Set
     ensures given { IfOk result (λ s. gen_of (said_in parts.now) ≡ Some s) }
     ensures usage { result ≡ Err SettingsFault.Usage → gen_of (said_in parts.now) ≡ None }
 {
-    let Some(from) = counted(parts, "from", 2_147_483_647) else {
+    let Some(from) = counted(parts, "from", MOST_FROM) else {
         return Err(SettingsFault::Usage);
     };
-    let Some(count) = counted(parts, "count", 1_000_000) else {
+    let Some(count) = counted(parts, "count", MOST_COUNT) else {
         return Err(SettingsFault::Usage);
     };
     let location = location(alloc, parts)?;
