@@ -1,5 +1,5 @@
 -- What the functions of every module make of lists.
-use Rattle.std.proofs.Common.{◌≡◌, ℕ, zero, suc, ◌+◌, ◌<◌, ◌≤◌, true, false, List, [], ◌∷◌, ◌++◌, length, min, refl, sym, ap, ap₂, ◌∙◌, subst, arith}
+use Rattle.std.proofs.Common.{◌≡◌, ℕ, zero, suc, ◌+◌, ◌^◌, ◌<◌, ◌≤◌, true, false, List, [], ◌∷◌, ◌++◌, length, min, refl, sym, ap, ap₂, ◌∙◌, subst, arith}
 use Rattle.std.specs.Prelude.{◌-◌, ◌&&◌, MatchResult, Option, Some, None, Result, Ok, Err, ℤ, pos, ◌+ℤ◌}
 use lib.IntN.{◌-ℤ◌}
 use Rattle.std.proofs.lemmas.Int.{ints}
@@ -75,16 +75,16 @@ from_weight z zero = refl
 from_weight z (suc n) = let more = from_weight (z +ℤ pos 1) n in omega arith
 
 -- the weight of a range
-pub range_weight : (a b : ℤ) (k n : ℕ) → k ≡ members_to (b -ℤ a) → n ≡ min (k + 1) 18446744073709551615 → n ≡ min (weight (list (items_from a (members_to (b -ℤ a))))) 18446744073709551615
+pub range_weight : (a b : ℤ) (k n : ℕ) → k ≡ members_to (b -ℤ a) → n ≡ min (k + 1) (2 ^ 64 - 1) → n ≡ min (weight (list (items_from a (members_to (b -ℤ a))))) (2 ^ 64 - 1)
 range_weight a b k n e same = let w = from_weight a (members_to (b -ℤ a)) in omega arith
 
-pub range_made : (o : Option ℕ) (n m k s : ℕ) (a b : ℤ) (zs : List ℤ) → k ≡ members_to (b -ℤ a) → m ≡ min (k + 1) 18446744073709551615 → o ≡ steps_within (n + m) → o ≡ Some s → items_of (wholes zs) ≡ items_from a k
+pub range_made : (o : Option ℕ) (n m k s : ℕ) (a b : ℤ) (zs : List ℤ) → k ≡ members_to (b -ℤ a) → m ≡ min (k + 1) (2 ^ 64 - 1) → o ≡ steps_within (n + m) → o ≡ Some s → items_of (wholes zs) ≡ items_from a k
     → counted n (list (items_from a (members_to (b -ℤ a)))) ≡ done (list_of_wholes zs) s
 range_made o n m k s a b zs e w same there made =
     counted_on o n m s (list (items_from a (members_to (b -ℤ a)))) (range_weight a b k m e w) same there
     ∙ ap (λ ts. done (list ts) s) (ap (items_from a) (sym e) ∙ sym made)
 
-pub range_over : (o : Option ℕ) (n m k : ℕ) (a b : ℤ) → k ≡ members_to (b -ℤ a) → m ≡ min (k + 1) 18446744073709551615 → o ≡ steps_within (n + m) → o ≡ None → counted n (list (items_from a (members_to (b -ℤ a)))) ≡ failed TooLong
+pub range_over : (o : Option ℕ) (n m k : ℕ) (a b : ℤ) → k ≡ members_to (b -ℤ a) → m ≡ min (k + 1) (2 ^ 64 - 1) → o ≡ steps_within (n + m) → o ≡ None → counted n (list (items_from a (members_to (b -ℤ a)))) ≡ failed TooLong
 range_over o n m k a b e w same there = counted_over o n m (list (items_from a (members_to (b -ℤ a)))) (range_weight a b k m e w) same there
 
 -- ---- arrays
@@ -122,25 +122,25 @@ pub no_array : (zs : List ℤ) (ts : Items) → are_whole ts ≡ false → array
 no_array zs no_items h = absurd (cc)
 no_array zs (item t ts) h = kind_step t ts zs h (λ ys k. no_array ys ts k)
 
-operated_by : (o : Option ℕ) (n m : ℕ) (r : Result Tree TaskError) (k : ℕ) → IsArray r k → m ≡ min (1 + k) 18446744073709551615 → o ≡ steps_within (n + m) → (zs : List ℤ) × (r ≡ Ok (numbers zs)) × (operated n r ≡ counted_with o (numbers zs))
+operated_by : (o : Option ℕ) (n m : ℕ) (r : Result Tree TaskError) (k : ℕ) → IsArray r k → m ≡ min (1 + k) (2 ^ 64 - 1) → o ≡ steps_within (n + m) → (zs : List ℤ) × (r ≡ Ok (numbers zs)) × (operated n r ≡ counted_with o (numbers zs))
 operated_by o n m r k a e same =
     let count = a.count in
     (a.made, a.is, ap (operated n) a.is ∙ counted_is o n m (numbers a.made) (omega arith) same)
 
 -- what an array of a list comes to, which is counted by the length of the list
-pub array_counted : (o : Option ℕ) (n m : ℕ) (vs : List Value) → are_whole (items_of (trees_of vs)) ≡ true → m ≡ min (1 + length vs) 18446744073709551615 → o ≡ steps_within (n + m)
+pub array_counted : (o : Option ℕ) (n m : ℕ) (vs : List Value) → are_whole (items_of (trees_of vs)) ≡ true → m ≡ min (1 + length vs) (2 ^ 64 - 1) → o ≡ steps_within (n + m)
     → (zs : List ℤ) × (array_behind [] (items_of (trees_of vs)) ≡ Ok (numbers zs)) × (operated n (array_behind [] (items_of (trees_of vs))) ≡ counted_with o (numbers zs))
 array_counted o n m vs h e same =
     let count = items_count vs in
     operated_by o n m (array_behind [] (items_of (trees_of vs))) (0 + items_length (items_of (trees_of vs))) (array_there [] (items_of (trees_of vs)) h) (omega arith) same
 
-pub array_made : (o : Option ℕ) (n m s : ℕ) (vs : List Value) (v : Value) → are_whole (items_of (trees_of vs)) ≡ true → m ≡ min (1 + length vs) 18446744073709551615 → o ≡ steps_within (n + m) → o ≡ Some s → array_behind [] (items_of (trees_of vs)) ≡ Ok (tree_of v)
+pub array_made : (o : Option ℕ) (n m s : ℕ) (vs : List Value) (v : Value) → are_whole (items_of (trees_of vs)) ≡ true → m ≡ min (1 + length vs) (2 ^ 64 - 1) → o ≡ steps_within (n + m) → o ≡ Some s → array_behind [] (items_of (trees_of vs)) ≡ Ok (tree_of v)
     → operated n (array_behind [] (items_of (trees_of vs))) ≡ done (tree_of v) s
 array_made o n m s vs v h e same there made =
     let a = array_counted o n m vs h e same in
     let is : numbers a.0 ≡ tree_of v = (let both = sym a.1 ∙ made in cc) in
     a.2 ∙ ap (λ p. counted_with p (numbers a.0)) there ∙ ap (λ (t : Tree). done t s) is
 
-pub array_long : (o : Option ℕ) (n m : ℕ) (vs : List Value) → are_whole (items_of (trees_of vs)) ≡ true → m ≡ min (1 + length vs) 18446744073709551615 → o ≡ steps_within (n + m) → o ≡ None
+pub array_long : (o : Option ℕ) (n m : ℕ) (vs : List Value) → are_whole (items_of (trees_of vs)) ≡ true → m ≡ min (1 + length vs) (2 ^ 64 - 1) → o ≡ steps_within (n + m) → o ≡ None
     → operated n (array_behind [] (items_of (trees_of vs))) ≡ failed TooLong
 array_long o n m vs h e same there = let a = array_counted o n m vs h e same in a.2 ∙ ap (λ p. counted_with p (numbers a.0)) there

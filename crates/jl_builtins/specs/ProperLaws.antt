@@ -1,12 +1,13 @@
 -- What operators, functions and lists make of proper values is proper.
 -- Machinery: nothing here need be believed.
-use Rattle.std.specs.Prelude.{int_lt, ◌≡◌, ◌<◌, ◌≤ℤ◌, ℕ, zero, suc, ◌+◌, Bool, true, false, nat_lt, nat_eq, if◌then◌else◌, unsigned_abs, ℤ, pos, negsuc, ◌+ℤ◌, List, [], ◌∷◌, ◌++◌, length, count_by, Option, Some, None, Result, Ok, Err, refl}
+use Rattle.std.specs.Prelude.{int_lt, ◌≡◌, ◌<◌, ◌≤ℤ◌, ℕ, zero, suc, ◌+◌, ◌-◌, ◌^◌, Bool, true, false, nat_lt, nat_eq, if◌then◌else◌, unsigned_abs, ℤ, pos, negsuc, ◌+ℤ◌, List, [], ◌∷◌, ◌++◌, length, count_by, Option, Some, None, Result, Ok, Err, refl}
 use lib.IntN.{◌-ℤ◌, ◌*ℤ◌, neg_ℤ}
 use Rattle.std.proofs.Common.{arith, subst, lit<}
 use Rattle.std.proofs.lemmas.Int.{ints}
 use Rattle.std.specs.Str.{bytes_eq}
 use Rattle.std.specs.declared.cmp.Ordering.{Ordering}
 use Rattle.std.proofs.lemmas.Str.{IsUtf8-append}
+use Rattle.jl_text.specs.declared.limits.TheConstants.{MOST_STEPS}
 use Rattle.jl_value.specs.Tree.{Tree, truth, whole, text, list, table, numbers, Items, no_items, item, Members, no_members, member, items_of, list_of}
 use Rattle.jl_value.specs.Proper.{FitsI64, AllFitI64, IsProper, AreProper, HasProper}
 use Rattle.jl_value.specs.declared.library.TaskError.{TaskError}
@@ -39,7 +40,7 @@ counted_if true v n h = tt
 counted_if false v n h = h
 
 pub counted_proper : (n : ℕ) (v : Tree) → IsProper v → IsProperRan (counted n v)
-counted_proper n v h = counted_if (nat_lt 16777216 (n + weight v)) v (n + weight v) h
+counted_proper n v h = counted_if (nat_lt MOST_STEPS (n + weight v)) v (n + weight v) h
 
 pub then_proper : (r : Evaluated) (f : Tree → ℕ → Evaluated) → IsProperRan r → ((v : Tree) (n : ℕ) → IsProper v → IsProperRan (f v n)) → IsProperRan (then' r f)
 then_proper (done v n) f h p = p v n h
@@ -190,26 +191,26 @@ array_made : (zs : List ℤ) (ts : Items) → AllFitI64 zs → AreProper ts → 
 array_made zs no_items h k = h
 array_made zs (item t ts) h k = whole_made t _ k.0 (λ z w. array_made (zs ++ z ∷ []) ts (numbers_proper zs (z ∷ []) h (w, tt)) k.1)
 
-pub whole_bounds : (z : ℤ) → FitsI64 z → (negsuc 9223372036854775807 ≤ℤ z) × (z ≤ℤ pos 9223372036854775807)
+pub whole_bounds : (z : ℤ) → FitsI64 z → (negsuc (2 ^ 63 - 1) ≤ℤ z) × (z ≤ℤ pos (2 ^ 63 - 1))
 whole_bounds (pos n) h = (omega (arith, ints), omega (arith, ints))
 whole_bounds (negsuc n) h = (omega (arith, ints), omega (arith, ints))
 
-whole_from : (z : ℤ) → negsuc 9223372036854775807 ≤ℤ z → z ≤ℤ pos 9223372036854775807 → FitsI64 z
+whole_from : (z : ℤ) → negsuc (2 ^ 63 - 1) ≤ℤ z → z ≤ℤ pos (2 ^ 63 - 1) → FitsI64 z
 whole_from (pos n) h k = omega (arith, ints)
 whole_from (negsuc n) h k = omega (arith, ints)
 
-step_whole : (z : ℤ) (n : ℕ) → FitsI64 z → (z +ℤ pos (suc n)) ≤ℤ pos 9223372036854775808 → (0 < n → FitsI64 (z +ℤ pos 1)) × (((z +ℤ pos 1) +ℤ pos n) ≤ℤ pos 9223372036854775808)
+step_whole : (z : ℤ) (n : ℕ) → FitsI64 z → (z +ℤ pos (suc n)) ≤ℤ pos (2 ^ 63) → (0 < n → FitsI64 (z +ℤ pos 1)) × (((z +ℤ pos 1) +ℤ pos n) ≤ℤ pos (2 ^ 63))
 step_whole z n h k = let b = whole_bounds z h in (λ some. whole_from (z +ℤ pos 1) (omega (arith, ints)) (omega (arith, ints)), omega (arith, ints))
 
-from_proper : (z : ℤ) (n : ℕ) → (0 < n → FitsI64 z) → (z +ℤ pos n) ≤ℤ pos 9223372036854775808 → AreProper (items_from z n)
+from_proper : (z : ℤ) (n : ℕ) → (0 < n → FitsI64 z) → (z +ℤ pos n) ≤ℤ pos (2 ^ 63) → AreProper (items_from z n)
 from_proper z zero h k = tt
 from_proper z (suc n) h k = let here = h (omega arith) in let next = step_whole z n here k in (here, from_proper (z +ℤ pos 1) n next.0 next.1)
 
-range_end_by : (a b d : ℤ) → (b -ℤ a) ≡ d → FitsI64 a → FitsI64 b → (a +ℤ pos (members_to d)) ≤ℤ pos 9223372036854775808
+range_end_by : (a b d : ℤ) → (b -ℤ a) ≡ d → FitsI64 a → FitsI64 b → (a +ℤ pos (members_to d)) ≤ℤ pos (2 ^ 63)
 range_end_by a b (pos n) e h k = let x = whole_bounds b k in omega (arith, ints)
 range_end_by a b (negsuc n) e h k = let x = whole_bounds a h in omega (arith, ints)
 
-range_end : (a b : ℤ) → FitsI64 a → FitsI64 b → (a +ℤ pos (members_to (b -ℤ a))) ≤ℤ pos 9223372036854775808
+range_end : (a b : ℤ) → FitsI64 a → FitsI64 b → (a +ℤ pos (members_to (b -ℤ a))) ≤ℤ pos (2 ^ 63)
 range_end a b h k = range_end_by a b (b -ℤ a) refl h k
 
 pub range_proper : (v w : Tree) → IsProper v → IsProper w → IsProperResult (range_of v w)

@@ -1,5 +1,5 @@
 // Two lists as one, each in either form.
-ghost use Rattle.std.specs.Prelude.{◌≡◌, ◌++◌, IfOk, min};
+ghost use Rattle.std.specs.Prelude.{◌≡◌, ◌-◌, ◌^◌, ◌++◌, IfOk, min};
 ghost use Rattle.jl_value.specs.Tree.{list, items_of};
 ghost use Rattle.jl_value.specs.Form.{tree_of, trees_of};
 ghost use Rattle.jl_operands.specs.Lists.{wholes as wholes_of};
@@ -79,7 +79,7 @@ fn join_lists(alloc: Global, left: Listed, right: Listed) -> Result<Operand, All
 // What the members of a list count, up to 2^64 - 1.
 fn listed_weight(members: Listed) -> u64
     ensures { result
-        ≡ min (items_weight_of (items_of (trees_listed members.entry))) 18446744073709551615 }
+        ≡ min (items_weight_of (items_of (trees_listed members.entry))) (2 ^ 64 - 1) }
 {
     match members {
         Listed::Wholes(numbers) => numbers.len() as u64,

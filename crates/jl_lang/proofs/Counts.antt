@@ -1,6 +1,7 @@
 -- The count of steps stays within its limit.
 use Rattle.std.proofs.Common.{◌≡◌, ℕ, ◌+◌, ◌≤◌, Bool, true, false, List, [], ◌∷◌, ◌++◌, Option, Some, None, refl, subst, arith}
 use Rattle.std.specs.Prelude.{nat_lt, if◌then◌else◌, Result, Ok, Err}
+use Rattle.jl_text.specs.declared.limits.TheConstants.{MOST_STEPS}
 use Rattle.jl_value.specs.Tree.{Tree, truth, list as listing, table as tabling, items_of, members_of}
 use Rattle.jl_value.specs.declared.library.TaskError.{TaskError}
 use Rattle.jl_value.specs.declared.library.TaskError.TheVariants.{TooLong}
@@ -16,15 +17,15 @@ use Rattle.jl_operands.specs.Lists.{source_of, each_over, picked, filtered_over,
 use Rattle.jl_lang.specs.Meaning.{argument, named, word_value, truth_counted, settled, chosen, value_of, members_value, entries_value}
 
 abbrev IsLow : Evaluated → Type 0
-IsLow (done v n) = n ≤ 16777216
+IsLow (done v n) = n ≤ MOST_STEPS
 IsLow (failed e) = Unit {0}
 
-counted_if : (b : Bool) (v : Tree) (n : ℕ) → nat_lt 16777216 n ≡ b → IsLow (if b then failed TooLong else done v n)
+counted_if : (b : Bool) (v : Tree) (n : ℕ) → nat_lt MOST_STEPS n ≡ b → IsLow (if b then failed TooLong else done v n)
 counted_if true v n h = tt
 counted_if false v n h = grind arith
 
 counted_low : (n : ℕ) (v : Tree) → IsLow (counted n v)
-counted_low n v = counted_if (nat_lt 16777216 (n + weight v)) v (n + weight v) refl
+counted_low n v = counted_if (nat_lt MOST_STEPS (n + weight v)) v (n + weight v) refl
 
 operated_low : (n : ℕ) (r : Result Tree TaskError) → IsLow (operated n r)
 operated_low n (Ok v) = counted_low n v
@@ -98,5 +99,5 @@ mutual
   entries_low ps no_entries kvs n = counted_low n (tabling (members_of kvs))
   entries_low ps (entry w e es) kvs n = then_low (value_of ps e n) _ (λ v m. entries_low ps es (with_entry (key_in w) v kvs) m)
 
-pub count_low : (ps : List (List ℕ × Tree)) (e : Expression) (n m : ℕ) (v : Tree) → value_of ps e n ≡ done v m → m ≤ 16777216
+pub count_low : (ps : List (List ℕ × Tree)) (e : Expression) (n m : ℕ) (v : Tree) → value_of ps e n ≡ done v m → m ≤ MOST_STEPS
 count_low ps e n m v same = subst IsLow same (value_low ps e n)

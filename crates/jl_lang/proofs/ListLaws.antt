@@ -1,6 +1,7 @@
 -- How many members a list has that goes over another.
 use Rattle.std.proofs.Common.{◌≡◌, ℕ, suc, ◌+◌, Bool, true, false, List, [], ◌∷◌, ◌++◌, length, refl, sym, ap, ◌∙◌, arith}
 use Rattle.std.specs.Prelude.{if◌then◌else◌, nat_lt, Some}
+use Rattle.jl_text.specs.declared.limits.TheConstants.{MOST_STEPS}
 use Rattle.jl_value.specs.Tree.{Tree, truth, list, Items, items_of}
 use Rattle.jl_value.specs.declared.library.TaskError.TheVariants.{TooLong}
 use Rattle.jl_lexer.specs.Trees.{Expression, each, filtered}
@@ -22,7 +23,7 @@ counted_by true n m vs ts e = absurd (cc)
 counted_by false n m vs ts e = let same : ts ≡ items_of vs = cc in ap items_length same ∙ items_count vs
 
 counted_list : (n m : ℕ) (vs : List Tree) (ts : Items) → counted n (list (items_of vs)) ≡ done (list ts) m → items_length ts ≡ length vs
-counted_list n m vs ts e = counted_by (nat_lt 16777216 (n + weight (list (items_of vs)))) (n + weight (list (items_of vs))) m vs ts e
+counted_list n m vs ts e = counted_by (nat_lt MOST_STEPS (n + weight (list (items_of vs)))) (n + weight (list (items_of vs))) m vs ts e
 
 each_step : (r : Evaluated) (of : Tree → ℕ → Evaluated) (us vs : List Tree) (m : ℕ) (ts : Items) → ((v : Tree) (l : ℕ) → each_over of us (vs ++ v ∷ []) l ≡ done (list ts) m → items_length ts ≡ length (vs ++ v ∷ []) + length us)
     → then' r (λ v l. each_over of us (vs ++ v ∷ []) l) ≡ done (list ts) m → items_length ts ≡ length vs + suc (length us)

@@ -1,10 +1,11 @@
 -- The law of the answers: a value is proper, nests 64 deep at most and has a text of at most 2 ^ 20 bytes.
 -- Machinery: nothing here need be believed.
-use Rattle.std.specs.Prelude.{◌≡◌, ◌≤◌, ◌<◌, ◌^◌, ℕ, Bool, true, false, ◌&&◌, not, nat_lt, nat_le, if◌then◌else◌, pos, List, [], ◌∷◌, ◌++◌, length, Option, Some, None, option_map, refl}
+use Rattle.std.specs.Prelude.{◌≡◌, ◌≤◌, ◌<◌, ◌^◌, ℕ, Bool, true, false, ◌&&◌, not, nat_lt, if◌then◌else◌, pos, List, [], ◌∷◌, ◌++◌, length, Option, Some, None, option_map, refl}
 use Rattle.std.proofs.Common.{arith, sym, true≢false}
 use Rattle.std.specs.Str.{bytes_eq, is_utf8, IsUtf8}
 use Rattle.std.specs.List.{list_all}
 use Rattle.std.proofs.lemmas.Str.{IsUtf8-from_is_utf8}
+use Rattle.jl_text.specs.declared.limits.TheConstants.{MOST_TEXT_BYTES, MOST_VALUE_DEPTH}
 use Rattle.jl_value.specs.Tree.{Tree, null, truth, whole, text, list, table, nesting, items_of, members_of}
 use Rattle.jl_value.specs.Canonical.{text_of}
 use Rattle.jl_value.specs.Key.{args_tree}
@@ -32,11 +33,11 @@ last_of : (a b : Bool) → (a && b) ≡ true → b ≡ true
 last_of true b e = e
 last_of false b e = absurd (true≢false (sym e))
 
-at_most : (n : ℕ) → nat_le n 9223372036854775807 ≡ true → n < 2 ^ 63
-at_most n h = grind arith
+is_below : (n : ℕ) → nat_lt n (2 ^ 63) ≡ true → n < 2 ^ 63
+is_below n h = grind arith
 
-number_limit : (w : List ℕ) → is_number w ≡ true → nat_le (number_behind 0 w) 9223372036854775807 ≡ true
-number_limit w h = last_of (not (has_leading_zero w)) (nat_le (number_behind 0 w) 9223372036854775807) (last_of (list_all is_digit w) (not (has_leading_zero w) && nat_le (number_behind 0 w) 9223372036854775807) (last_of (nat_lt 0 (length w)) (list_all is_digit w && (not (has_leading_zero w) && nat_le (number_behind 0 w) 9223372036854775807)) h))
+number_limit : (w : List ℕ) → is_number w ≡ true → nat_lt (number_behind 0 w) (2 ^ 63) ≡ true
+number_limit w h = last_of (not (has_leading_zero w)) (nat_lt (number_behind 0 w) (2 ^ 63)) (last_of (list_all is_digit w) (not (has_leading_zero w) && nat_lt (number_behind 0 w) (2 ^ 63)) (last_of (nat_lt 0 (length w)) (list_all is_digit w && (not (has_leading_zero w) && nat_lt (number_behind 0 w) (2 ^ 63))) h))
 
 abbrev IfThere : Option Tree → Type 0
 IfThere None = Unit {0}
@@ -64,7 +65,7 @@ as_text (Some s) h = h
 
 constant_proper : (w : List ℕ) → IfThere (constant_of w)
 constant_proper w =
-    there_if (is_number w) (whole (pos (number_behind 0 w))) (named_constant w) (λ h. at_most (number_behind 0 w) (number_limit w h))
+    there_if (is_number w) (whole (pos (number_behind 0 w))) (named_constant w) (λ h. is_below (number_behind 0 w) (number_limit w h))
     (there_if (bytes_eq w true_word) (truth true) _ (λ h. tt)
     (there_if (bytes_eq w false_word) (truth false) _ (λ h. tt)
     (there_if (bytes_eq w none_word) null _ (λ h. tt) (as_text (text_in w) (text_proper (quoted_in w))))))
@@ -137,13 +138,13 @@ mutual
 not_over : (a b : ℕ) → nat_lt a b ≡ false → b ≤ a
 not_over a b h = grind arith
 
-limits_if : (deep long : Bool) (v : Tree) → IsProper v → (deep ≡ false → nesting v ≤ 64) → (long ≡ false → length (text_of v) ≤ 1048576) → IsWithin (if deep then error TooDeep else (if long then error TooLong else value v))
+limits_if : (deep long : Bool) (v : Tree) → IsProper v → (deep ≡ false → nesting v ≤ MOST_VALUE_DEPTH) → (long ≡ false → length (text_of v) ≤ MOST_TEXT_BYTES) → IsWithin (if deep then error TooDeep else (if long then error TooLong else value v))
 limits_if true long v h p q = tt
 limits_if false true v h p q = tt
 limits_if false false v h p q = (h, p refl, q refl)
 
 limited_within : (r : Evaluated) → IsProperRan r → IsWithin (limited r)
-limited_within (done v n) h = limits_if (nat_lt 64 (nesting v)) (nat_lt 1048576 (length (text_of v))) v h (not_over 64 (nesting v)) (not_over 1048576 (length (text_of v)))
+limited_within (done v n) h = limits_if (nat_lt MOST_VALUE_DEPTH (nesting v)) (nat_lt MOST_TEXT_BYTES (length (text_of v))) v h (not_over MOST_VALUE_DEPTH (nesting v)) (not_over MOST_TEXT_BYTES (length (text_of v)))
 limited_within (failed e) h = tt
 
 called_if : (a b : Bool) (r : Answer) → IsWithin r → IsWithin (if a then error NoArgument else (if b then error ExtraArgument else r))

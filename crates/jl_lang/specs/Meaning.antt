@@ -2,6 +2,7 @@
 use Rattle.std.specs.Prelude.{ℕ, ◌+◌, Bool, true, false, not, nat_lt, if◌then◌else◌, List, [], ◌∷◌, ◌++◌, length, Option, Some, None}
 use Rattle.std.specs.List.{list_any, list_all}
 use Rattle.std.specs.Str.{bytes_eq}
+use Rattle.jl_text.specs.declared.limits.TheConstants.{MOST_TEXT_BYTES, MOST_VALUE_DEPTH}
 use Rattle.jl_value.specs.Tree.{Tree, truth, list, table, items_of, members_of, nesting}
 use Rattle.jl_value.specs.Canonical.{text_of}
 use Rattle.jl_value.specs.Library.{Answer, value, error}
@@ -84,7 +85,7 @@ abbrev mutual
 -- a value may nest 64 deep, and its text may have 2 ^ 20 bytes
 abbrev pub limited : Evaluated → Answer
 limited (failed e) = error e
-limited (done v n) = if nat_lt 64 (nesting v) then error TooDeep else (if nat_lt 1048576 (length (text_of v)) then error TooLong else value v)
+limited (done v n) = if nat_lt MOST_VALUE_DEPTH (nesting v) then error TooDeep else (if nat_lt MOST_TEXT_BYTES (length (text_of v)) then error TooLong else value v)
 
 -- whether a name is in the arguments
 abbrev pub has_argument : List (List ℕ × Tree) → List ℕ → Bool

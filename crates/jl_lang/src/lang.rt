@@ -15,6 +15,7 @@ use jl_lexer::Tree;
 use jl_module::{Definition, LineFault, Names, find, module_fault, read_definition};
 use jl_operands::{CallFault, Counted, Steps, nests_within};
 use jl_text::Text;
+use jl_text::limits::{MOST_TEXT_BYTES, MOST_VALUE_DEPTH};
 use jl_value::{Args, Called, CodeRef, Library, Outcome, ReadModule, TaskError, Value, canonical};
 use std::alloc::{AllocError, Global};
 
@@ -84,10 +85,10 @@ fn keep_limits(alloc: Global, ran: Counted) -> Result<Value, CallFault>
         (λ e. IsError e (limited_of (done (tree_of_operand ran.value) ran.steps))) }
 {
     let value = ran.value.into_value(alloc)?;
-    if !nests_within(&value, 64) {
+    if !nests_within(&value, MOST_VALUE_DEPTH) {
         return Err(CallFault::Task(TaskError::TooDeep));
     }
-    if text_length(alloc, &value)? > 1_048_576 {
+    if text_length(alloc, &value)? > MOST_TEXT_BYTES {
         return Err(CallFault::Task(TaskError::TooLong));
     }
     Ok(value)

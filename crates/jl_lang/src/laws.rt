@@ -1,5 +1,6 @@
 // Laws of what expressions and codes answer.
 ghost use Rattle.std.specs.Prelude.{◌≡◌, ◌≤◌, ◌∷◌, ℕ, List, length, Some};
+ghost use Rattle.jl_text.specs.declared.limits.TheConstants.{MOST_STEPS};
 ghost use Rattle.jl_value.specs.Tree.{Tree, Items, list};
 ghost use Rattle.jl_lexer.specs.Trees.{Expression, each, filtered};
 ghost use Rattle.jl_operands.specs.Steps.{done};
@@ -13,7 +14,7 @@ ghost use Rattle.jl_lang.specs.Meaning.{value_of, answer_of};
 /// The count of steps never passes 16,777,216 at a value.
 pub fn the_count_keeps_its_limit()
     ensures { (ps : List (List ℕ × Tree)) (e : Expression) (n m : ℕ) (v : Tree)
-        → value_of ps e n ≡ done v m → m ≤ 16777216 }
+        → value_of ps e n ≡ done v m → m ≤ MOST_STEPS }
 {}
 
 /// A list by `for` has one member for each member that it goes over.

@@ -1,5 +1,5 @@
 -- Words: names, the reserved ones, and whole numbers.
-use Rattle.std.specs.Prelude.{ℕ, ◌+◌, ◌-◌, ◌*◌, Bool, true, false, not, ◌&&◌, ◌||◌, nat_le, nat_lt, nat_eq, if◌then◌else◌, pos, List, [], ◌∷◌, length, Option, Some, None, option_map, codes}
+use Rattle.std.specs.Prelude.{ℕ, ◌+◌, ◌-◌, ◌*◌, ◌^◌, Bool, true, false, not, ◌&&◌, ◌||◌, nat_lt, nat_eq, if◌then◌else◌, pos, List, [], ◌∷◌, length, Option, Some, None, option_map, codes}
 use Rattle.std.specs.List.{list_all}
 use Rattle.std.specs.Str.{bytes_eq, is_utf8}
 use Rattle.jl_value.specs.Tree.{Tree, null, truth, whole, text}
@@ -48,7 +48,7 @@ has_leading_zero (d ∷ ds) = nat_eq d 48 && nat_lt 0 (length ds)
 
 -- digits with no leading zero, of a number below 2 ^ 63
 abbrev pub is_number : List ℕ → Bool
-is_number w = nat_lt 0 (length w) && (list_all is_digit w && (not (has_leading_zero w) && nat_le (number_behind 0 w) 9223372036854775807))
+is_number w = nat_lt 0 (length w) && (list_all is_digit w && (not (has_leading_zero w) && nat_lt (number_behind 0 w) (2 ^ 63)))
 
 abbrev pub number_of : List ℕ → Option ℕ
 number_of w = if is_number w then Some (number_behind 0 w) else None

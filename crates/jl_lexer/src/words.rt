@@ -1,4 +1,4 @@
-ghost use Rattle.std.specs.Prelude.{◌≡◌, ◌≤◌, IsTrue, IfSome, Some, None, if◌then◌else◌, nat_le};
+ghost use Rattle.std.specs.Prelude.{◌≡◌, ◌^◌, ◌<◌, IsTrue, IfSome, Some, None, if◌then◌else◌, nat_lt};
 ghost use Rattle.std.specs.List.{list_all};
 ghost use Rattle.jl_lexer.specs.Signs.{is_digit as is_digit_of, is_word_byte as is_word_byte_of};
 ghost use Rattle.jl_lexer.specs.Words.{is_form_word as is_form_word_of, is_truth_word as is_truth_word_of, is_function_word as is_function_word_of, is_reserved as is_reserved_of, is_identifier as is_identifier_of, number_of, number_behind, has_leading_zero as has_leading_zero_of, def_word, true_word, false_word, none_word};
@@ -6,6 +6,7 @@ ghost use Rattle.std.specs.Str.{bytes_eq};
 ghost use Rattle.jl_text.specs.Texts.{is_name as is_name_of, begins_with_digit as begins_digit_of};
 
 use crate::lexer::{is_digit, is_word_byte};
+use jl_text::limits::MOST_NAME_BYTES;
 
 /// Whether a word is `def`.
 #[tactic(auto, unfolding(crate::specs::Words::def_word))]
@@ -104,7 +105,7 @@ pub(crate) fn is_name(word: &[u8]) -> bool
     if word.is_empty() {
         return false;
     }
-    if word.len() > 64 {
+    if word.len() > MOST_NAME_BYTES {
         return false;
     }
     if begins_digit(word) {
@@ -132,12 +133,12 @@ fn has_leading_zero(word: &[u8]) -> bool
     }
 }
 
-// The number that digits write, where it is at most 2^63 - 1.
+// The number that digits write, where it is below 2^63.
 fn number_value(word: &[u8]) -> Option<u64>
     requires { IsTrue (list_all is_digit_of word.now) }
-    ensures low { IfSome result (λ n. n ≤ 9223372036854775807) }
+    ensures low { IfSome result (λ n. n < 2 ^ 63) }
     ensures value { result
-        ≡ (if nat_le (number_behind 0 word.now) 9223372036854775807
+        ≡ (if nat_lt (number_behind 0 word.now) (2 ^ 63)
         then Some (number_behind 0 word.now) else None) }
 {
     let mut value: u64 = 0;
@@ -156,7 +157,7 @@ fn number_value(word: &[u8]) -> Option<u64>
 /// The number that a word writes.
 pub(crate) fn number(word: &[u8]) -> Option<u64>
     ensures number { result ≡ number_of word.now }
-    ensures low { IfSome result (λ n. n ≤ 9223372036854775807) }
+    ensures low { IfSome result (λ n. n < 2 ^ 63) }
 {
     if word.is_empty() {
         return None;

@@ -1,5 +1,5 @@
 -- Lists of whole numbers that are kept as such, as trees.
-use Rattle.std.proofs.Common.{◌≡◌, ℕ, ◌+◌, ◌≤◌, List, [], ◌∷◌, ◌++◌, length, min, refl, ap, arith}
+use Rattle.std.proofs.Common.{◌≡◌, ℕ, ◌+◌, ◌-◌, ◌^◌, ◌<◌, List, [], ◌∷◌, ◌++◌, length, min, refl, ap, arith}
 use Rattle.std.specs.Prelude.{ℤ}
 use Rattle.jl_value.specs.Tree.{Tree, whole, items_of, list_of}
 use Rattle.jl_operands.specs.Steps.{items_weight, weight}
@@ -26,8 +26,8 @@ pub wholes_weight : (zs : List ℤ) → items_weight (items_of (wholes zs)) ≡ 
 wholes_weight [] = refl
 wholes_weight (z ∷ zs) = let rest = wholes_weight zs in omega arith
 
-pub wholes_weight_low : (zs : List ℤ) → length zs ≤ 18446744073709551615 → length zs ≡ min (items_weight (items_of (wholes zs))) 18446744073709551615
+pub wholes_weight_low : (zs : List ℤ) → length zs < 2 ^ 64 → length zs ≡ min (items_weight (items_of (wholes zs))) (2 ^ 64 - 1)
 wholes_weight_low zs low = let same = wholes_weight zs in omega arith
 
-pub list_weight_of : (zs : List ℤ) (n : ℕ) → n ≡ min (1 + length zs) 18446744073709551615 → n ≡ min (weight (list_of_wholes zs)) 18446744073709551615
+pub list_weight_of : (zs : List ℤ) (n : ℕ) → n ≡ min (1 + length zs) (2 ^ 64 - 1) → n ≡ min (weight (list_of_wholes zs)) (2 ^ 64 - 1)
 list_weight_of zs n e = let same = wholes_weight zs in omega arith

@@ -1,5 +1,6 @@
 -- The count of steps: each value counts what it weighs, and the count may not pass 2 ^ 24.
 use Rattle.std.specs.Prelude.{ℕ, ◌+◌, nat_lt, if◌then◌else◌, length, Option, Some, None, Result, Ok, Err}
+use Rattle.jl_text.specs.declared.limits.TheConstants.{MOST_STEPS}
 use Rattle.jl_value.specs.Tree.{Tree, null, truth, whole, text, list, table, numbers, Items, no_items, item, Members, no_members, member}
 use Rattle.jl_value.specs.declared.library.TaskError.{TaskError}
 use Rattle.jl_value.specs.declared.library.TaskError.TheVariants.{TooLong}
@@ -37,11 +38,11 @@ then' (failed e) next = failed e
 
 -- a count of steps, where it does not pass 2 ^ 24
 abbrev pub steps_within : ℕ → Option ℕ
-steps_within n = if nat_lt 16777216 n then None else Some n
+steps_within n = if nat_lt MOST_STEPS n then None else Some n
 
 -- a value to be counted, which may not pass 2 ^ 24
 abbrev pub counted : ℕ → Tree → Evaluated
-counted n v = if nat_lt 16777216 (n + weight v) then failed TooLong else done v (n + weight v)
+counted n v = if nat_lt MOST_STEPS (n + weight v) then failed TooLong else done v (n + weight v)
 
 -- what an operation makes, to be counted, or its error
 abbrev pub operated : ℕ → Result Tree TaskError → Evaluated

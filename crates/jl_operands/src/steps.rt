@@ -2,9 +2,8 @@
 ghost use Rattle.std.specs.Prelude.{◌≡◌, ◌+◌};
 ghost use Rattle.jl_operands.specs.Steps.{steps_within};
 
+use jl_text::limits::MOST_STEPS;
 use std::marker::Model;
-
-const MOST_STEPS: u64 = 16_777_216;
 
 /// How many steps an evaluation has taken.
 #[derive(Drop, Clone, Copy)]
@@ -14,6 +13,7 @@ pub struct Steps {
 
 impl Model for Steps {
     ghost use Rattle.std.specs.Prelude.{◌≤◌, ℕ};
+    ghost use Rattle.jl_text.specs.declared.limits.TheConstants.{MOST_STEPS};
 
     ghost Value = { ℕ };
 
@@ -21,7 +21,7 @@ impl Model for Steps {
 
     ghost inverse = { λ n. record { count = n } };
 
-    ghost invariant = { λ s. s.count ≤ 16777216 };
+    ghost invariant = { λ s. s.count ≤ MOST_STEPS };
 }
 
 impl Steps {

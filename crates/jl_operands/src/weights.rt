@@ -1,5 +1,5 @@
 // What values weigh in the count of steps, and how deep they nest.
-ghost use Rattle.std.specs.Prelude.{◌≡◌, ◌+◌, min, nat_le};
+ghost use Rattle.std.specs.Prelude.{◌≡◌, ◌+◌, ◌-◌, ◌^◌, min, nat_le};
 ghost use Rattle.jl_value.specs.Tree.{items_of, members_of};
 ghost use Rattle.jl_value.specs.Form.{tree_of, trees_of, entries_of};
 ghost use Rattle.jl_value.specs.Tree.{nesting, items_nesting, members_nesting};
@@ -10,7 +10,7 @@ use jl_value::Value;
 
 /// What a text or an array of this length counts, up to 2^64 - 1.
 pub fn length_weight(length: usize) -> u64
-    ensures { result ≡ min (1 + length) 18446744073709551615 }
+    ensures { result ≡ min (1 + length) (2 ^ 64 - 1) }
 {
     (length as u64).saturating_add(1)
 }
@@ -18,7 +18,7 @@ pub fn length_weight(length: usize) -> u64
 /// What a value counts, up to 2^64 - 1.
 #[cycle(weight)]
 pub(crate) fn weight(value: &Value) -> u64
-    ensures { result ≡ min (weight_of (tree_of value.now)) 18446744073709551615 }
+    ensures { result ≡ min (weight_of (tree_of value.now)) (2 ^ 64 - 1) }
 {
     match value {
         Value::Null => 1,
@@ -34,7 +34,7 @@ pub(crate) fn weight(value: &Value) -> u64
 /// What the members of a list count, up to 2^64 - 1.
 #[cycle(weight)]
 pub fn items_weight(items: &[Value]) -> u64
-    ensures { result ≡ min (items_weight_of (items_of (trees_of items.now))) 18446744073709551615 }
+    ensures { result ≡ min (items_weight_of (items_of (trees_of items.now))) (2 ^ 64 - 1) }
 {
     let mut total: u64 = 0;
     for item in items {
@@ -47,7 +47,7 @@ pub fn items_weight(items: &[Value]) -> u64
 #[cycle(weight)]
 pub(crate) fn members_weight(members: &[(Text, Value)]) -> u64
     ensures { result
-        ≡ min (members_weight_of (members_of (entries_of members.now))) 18446744073709551615 }
+        ≡ min (members_weight_of (members_of (entries_of members.now))) (2 ^ 64 - 1) }
 {
     let mut total: u64 = 0;
     for (key, member) in members {

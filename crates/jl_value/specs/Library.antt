@@ -1,5 +1,6 @@
 -- What a library answers, and the limits that each library keeps.
-use Rattle.std.specs.Prelude.{◌≡◌, ◌≤◌, ℕ, ◌+◌, min, List, length, Option, Some, None, ⊤}
+use Rattle.std.specs.Prelude.{◌≡◌, ◌≤◌, ℕ, List, length, Option, Some, None, ⊤}
+use Rattle.jl_text.specs.Counts.{counted}
 use Rattle.jl_text.specs.declared.limits.TheConstants.{MOST_TEXT_BYTES, MOST_VALUE_DEPTH}
 use Rattle.jl_value.specs.Tree.{Tree, nesting}
 use Rattle.jl_value.specs.Canonical.{text_of}
@@ -31,7 +32,7 @@ IfDone NoMemory P = ⊤
 
 -- a count that stands still at its last value
 abbrev pub next_count : ℕ → ℕ
-next_count n = min (n + 1) 18446744073709551615
+next_count n = counted n
 
 -- a call that was done is counted
 abbrev pub Counted : Called → ℕ → ℕ → Type 0
