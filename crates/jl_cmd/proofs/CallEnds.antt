@@ -15,6 +15,7 @@ use Rattle.jl_protocol.specs.Proper.{LawfulThroughout}
 use Rattle.jl_protocol.proofs.Before.{one_value}
 use Rattle.jl_store.specs.declared.memory.Memory.{Memory}
 use Rattle.jl_store.specs.declared.memory.Warning.{Warning}
+use Rattle.jl_store.specs.Stretch.{point}
 use Rattle.jl_store.specs.Trust.{IsTrusted}
 use Rattle.jl_store.proofs.Lawfully.{lawful_waits, lawful_then, trusted_later}
 use Rattle.jl_words.specs.ModuleNames.{module_name_of}
@@ -30,11 +31,13 @@ use Rattle.jl_cmd.specs.of.Call.{CallEnds, CallEnded}
 use Rattle.jl_cmd.specs.Endings.{EndsComputed}
 use Rattle.jl_cmd.specs.Met.{of_nothing, of_module}
 use Rattle.jl_cmd.specs.Computing.{Computes, Counts, Calls, IsRefusal, WritesWarned}
+use Rattle.jl_cmd.specs.Tasks.{AsksTask}
 use Rattle.jl_cmd.specs.Texts.{warning_lines}
 use Rattle.jl_cmd.proofs.CallingLemmas.{Parts, after_reading, call_lines, call_leaves, written_at}
 use Rattle.jl_cmd.proofs.ComingLemmas.{written_comes}
 use Rattle.jl_cmd.proofs.EndingLemmas.{finishes_so, computes_under}
 use Rattle.jl_cmd.proofs.IdleLemmas.{written_refusal, own_waits, silent_waits}
+use Rattle.jl_cmd.proofs.TaskEnds.{call_tasks}
 
 module _ (v : Stretch) (file location : PathView) (name args : List ℕ) (out : SinkView) where
   abbrev Trusts : Type 0
@@ -62,6 +65,7 @@ module _ (v : Stretch) (file location : PathView) (name args : List ℕ) (out : 
       lines = λ m is. ([], silent, inl refl);
       alone = λ told m is lone sound rose. none _;
       comes = λ m is. none _;
+      tasks = tt;
     };
   }
 
@@ -94,10 +98,10 @@ module _ (v : Stretch) (file location : PathView) (name args : List ℕ) (out : 
     -- a call whose module was read
     pub call_read : (c : Computed) (e : Ended) (said : List ℕ) (none items : List Warning) → none ≡ [] → (v.folder.told → CallsLawfully location v.means.answer Kinds mid v.folder') → Computes (call_output v.means bytes name args) (IsTrusted (root_of location) v.means.answer mid v.folder') c → Counts c v.calls v.calls' → CallWarns v.means memory bytes name args mid v.folder' none items
         → (mid.told → IsLone mid.token (moved mid v.folder') → IsSound (root_of memory.location) v.means.answer (state mid) → (Rose mid.faults v.folder'.faults → ⊥) → ComputedAt c (LeavesCalled memory bytes name args (after_reading v mid)))
-        → ComputedAt c (ComesCalled memory bytes name args (after_reading v mid) (ComputedWith c none items)) → (IsRefusal c → v.folder.told → Waits v.folder v.folder') → (IsRefusal c → v.host'.moments ≡ v.host.moments) → WritesWarned c e out out' → ((old new : ℕ) → Counts c old new → Calls e old new)
+        → ComputedAt c (ComesCalled memory bytes name args (after_reading v mid) (ComputedWith c none items)) → (mid.told → AsksTask v.means memory bytes name args c (point mid v.host v.calls none) (point v.folder' v.host' v.calls' items)) → (IsRefusal c → v.folder.told → Waits v.folder v.folder') → (IsRefusal c → v.host'.moments ≡ v.host.moments) → WritesWarned c e out out' → ((old new : ℕ) → Counts c old new → Calls e old new)
         → (said ≡ warning_lines memory.«module» items) ⊎ ((said ≡ []) × (e ≡ NoMemory)) → CallEnded file location name args v out out' e said
     unfolding LawfulThroughout
-    call_read c e said none items empty lawful computes counts warns leaves comes refuses stands writes calls lines = record {
+    call_read c e said none items empty lawful computes counts warns leaves comes task refuses stands writes calls lines = record {
       met = of_module bytes;
       ends =
           ends_read e
@@ -119,6 +123,7 @@ module _ (v : Stretch) (file location : PathView) (name args : List ℕ) (out : 
         lines = call_lines v mid file location memory bytes parts name args said e none items empty lines warns;
         alone = λ told m is lone sound rose. written_at c e _ out out' writes (call_leaves v mid file location memory bytes parts name args c leaves told m is lone sound rose);
         comes = written_comes v mid file location memory bytes parts name args out out' c e said none items empty writes lines comes;
+        tasks = call_tasks v mid file location memory bytes parts name args out out' c e said none items empty writes lines task;
       };
     }
 

@@ -26,6 +26,7 @@ use Rattle.jl_store.specs.declared.memory.WarnKind.TheVariants.{LoadFault, Store
 use Rattle.jl_store.specs.declared.cached.Cached.{Cached}
 use Rattle.jl_store.specs.declared.cached.Cached.TheVariants as cached
 use Rattle.jl_store.specs.Cached.{IsAnswer, CountsCall}
+use Rattle.jl_store.specs.Stretch.{point, between}
 use Rattle.jl_store.specs.Trust.{IsTrusted}
 use Rattle.jl_store.specs.Asked.{Asked, output_asked}
 use Rattle.jl_store.specs.Next.{LeavesNext, AreTimed}
@@ -87,6 +88,7 @@ call_refused memory bytes name args means calls calls' folder host c ws is same 
   warns = ([], sym (append-nil ws), inl refl);
   alone = λ told lone sound rose. refused_at c _ is;
   comes = refused_at c _ is;
+  task = λ told. inl (is, ap (λ (k : ℕ). between (point folder host k ws)) same);
 }
 
 -- an ending with neither a value nor an error
@@ -184,6 +186,7 @@ pub record Parts (v : Stretch) (mid : FolderView) (file location : PathView) (me
   pub waits : v.folder.told → Waits v.folder mid
   pub second : mid.told → GoesOn mid v.folder'
   pub reads : v.folder.told → ReadFrom file bytes v.folder v.folder'
+  pub reading : v.folder.told → ReadFrom file bytes v.folder mid
   pub located : memory.location ≡ location
   pub named : module_name_of file ≡ Some memory.«module»
   pub by : memory.token ≡ v.folder.token

@@ -11,5 +11,6 @@ pub mod RanLemmas
 pub mod ReduceEnds
 pub mod ReportLemmas
 pub mod RunsLemmas
+pub mod TaskEnds
 pub mod TrackerEnds
 pub mod TrackerMoves

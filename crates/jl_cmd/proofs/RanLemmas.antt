@@ -132,6 +132,7 @@ module _ (means : Meanings) (calls : ℕ) (folder : FolderView) (host : HostView
     lines = λ m is. ([], refl, inl refl);
     alone = λ told m is lone sound rose. tt;
     comes = λ m is. tt;
+    tasks = tt;
   }
   did_nothing (Some (hash args)) = tt
   did_nothing (Some (clear location m f key)) = record { ends = tt; clears = λ told. clears_none location m f key }

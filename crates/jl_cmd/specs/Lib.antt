@@ -17,6 +17,7 @@ pub mod Ran
 pub mod Reporting
 pub mod Saying
 pub mod Statuses
+pub mod Tasks
 pub mod Texts
 pub mod Uncalled
 pub mod of

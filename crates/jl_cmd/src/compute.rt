@@ -14,6 +14,7 @@ ghost use Rattle.jl_entry.specs.Names.{root_of};
 ghost use Rattle.jl_protocol.specs.Tidy.{IsSound};
 ghost use Rattle.jl_store.specs.Asked.{asked};
 ghost use Rattle.jl_store.specs.Warned.{Warns};
+ghost use Rattle.jl_store.specs.Stretch.{point};
 ghost use Rattle.jl_store.specs.Trust.{IsTrusted};
 ghost use Rattle.jl_cmd.specs.Course.{meanings, stretch};
 ghost use Rattle.jl_cmd.specs.Output.{call_output, called as called_of, answers, module_fault_of};
@@ -21,6 +22,7 @@ ghost use Rattle.jl_cmd.specs.Caches.{CallsLawfully, IsOfCall};
 ghost use Rattle.jl_cmd.specs.Calling.{LeavesAsked, ComputedAt};
 ghost use Rattle.jl_cmd.specs.Coming.{ComesAsked, ComputedWith};
 ghost use Rattle.jl_cmd.specs.Computing.{Computes, Counts, IsRefusal};
+ghost use Rattle.jl_cmd.specs.Tasks.{ComputesTask};
 ghost use Rattle.jl_cmd.specs.of.Call.{ComputesCall};
 
 use crate::arguments::{ArgumentsFault, read_arguments};
@@ -70,6 +72,12 @@ fn answered<L: Library, F: Folder, H: Host>(
         → ComputedAt result (ComesAsked (asked memory.now name.now c n args.now) (stretch (meanings L.code L.line L.fault L.answer) (L.calls lib.old) (L.calls lib.new)
         (F.view folder.old) (F.view folder.new) (H.view host.old) (H.view host.new))
         (ComputedWith result warnings.old.items warnings.new.items)) }
+    // What was computed is of the answer of one task, which did its parts from before to after.
+    ensures task { (c : List ℕ) (n : ℕ) → L.code (L.loaded lib.old) name.now ≡ Some c
+        → L.line (L.loaded lib.old) name.now ≡ n → (F.view folder.old).told
+        → ComputesTask L.answer (asked memory.now name.now c n args.now) result
+        (point (F.view folder.old) (H.view host.old) (L.calls lib.old) warnings.old.items)
+        (point (F.view folder.new) (H.view host.new) (L.calls lib.new) warnings.new.items) }
     ensures idle { IsRefusal result → (folder.new ≡ folder.old) × (host.new ≡ host.old) }
     ensures frame { FolderKeeps (F.view folder.old) (F.view folder.new) }
     ensures host { HostKeeps (H.view host.old) (H.view host.new) }

@@ -10,6 +10,7 @@ use Rattle.jl_entry.specs.Names.{root_of}
 use Rattle.jl_protocol.specs.Tidy.{IsSound}
 use Rattle.jl_store.specs.declared.memory.Memory.{Memory}
 use Rattle.jl_store.specs.declared.memory.Warning.{Warning}
+use Rattle.jl_store.specs.Stretch.{point}
 use Rattle.jl_store.specs.Trust.{IsTrusted}
 use Rattle.jl_words.specs.ModuleNames.{module_name_of}
 use Rattle.jl_cmd.specs.declared.computed.Computed.{Computed}
@@ -23,13 +24,14 @@ use Rattle.jl_cmd.specs.Course.{Stretch}
 use Rattle.jl_cmd.specs.Endings.{EndsComputed, LacksTold, WritesNothing, status_of}
 use Rattle.jl_cmd.specs.Met.{Met, ReadModuleFrom, bytes_in}
 use Rattle.jl_cmd.specs.Output.{call_output}
+use Rattle.jl_cmd.specs.Tasks.{AsksTask, CallTasks}
 use Rattle.jl_cmd.specs.Texts.{warning_lines}
 use Rattle.jl_cmd.specs.Uncalled.{IsUncalled}
 
 -- ---- what is computed
 
 -- What a call of a name, over a module's bytes, a text of arguments and the cache, did to come to this, with the warnings that it added: lawful moves of its
--- own function; the library's count; of what it warns; what a lone call leaves; and how it came to its answer
+-- own function; the library's count; of what it warns; what a lone call leaves; how it came to its answer; and the task that it asked of the cache
 pub record ComputesCall (memory : Memory) (bytes name args : List ℕ) (v : Stretch) (c : Computed) (warnings warnings' : List Warning) : Type 0 where
   pub lawful : v.folder.told
       → CallsLawfully memory.location v.means.answer (IsOfCall (root_of memory.location) memory.«module» name v.folder.token) v.folder v.folder'
@@ -38,6 +40,7 @@ pub record ComputesCall (memory : Memory) (bytes name args : List ℕ) (v : Stre
   pub alone : v.folder.told → IsLone v.folder.token (moved v.folder v.folder') → IsSound (root_of memory.location) v.means.answer (state v.folder)
       → (Rose v.folder.faults v.folder'.faults → ⊥) → ComputedAt c (LeavesCalled memory bytes name args v)
   pub comes : ComputedAt c (ComesCalled memory bytes name args v (ComputedWith c warnings warnings'))
+  pub task : v.folder.told → AsksTask v.means memory bytes name args c (point v.folder v.host v.calls warnings) (point v.folder' v.host' v.calls' warnings')
 
 -- ---- what is said and left
 
@@ -57,7 +60,8 @@ CallLeaves file location bytes name args v At =
 -- ---- what is done
 
 -- a call of the function of this name of the module in a file ended so, by what was met, with the lines of its warnings still to be written: the
--- library's count; no move and no reading of the clock where none was called; its warnings; what a lone call left; and how it came to its answer
+-- library's count; no move and no reading of the clock where none was called; its warnings; what a lone call left; how it came to its answer; and
+-- its tasks, once the module was read
 pub record CallDid (file location : PathView) (name args : List ℕ) (v : Stretch) (met : Met) (out out' : SinkView) (e : Ended) (said : List ℕ) : Type 0 where
   pub calls : Calls e v.calls v.calls'
   pub idle : v.folder.told → IsUncalled (status_of e) → MakesNone v.folder v.folder'
@@ -65,6 +69,7 @@ pub record CallDid (file location : PathView) (name args : List ℕ) (v : Stretc
   pub lines : CallSays file location (bytes_in met) name args v said
   pub alone : CallLeaves file location (bytes_in met) name args v (EndedAt e)
   pub comes : CallComes file location (bytes_in met) name args v (EndsWith e said out out') (EndedAt e)
+  pub tasks : CallTasks file location name args v met out out' e said
 
 -- its output was computed from the bytes that were read and written so; or the file was lacked, or the folder's faults rose, or memory was wanting
 abbrev pub CallEnds : (file location : PathView) → (name args : List ℕ) → Stretch → Met → (out out' : SinkView) → Ended → Type 0

@@ -11,6 +11,7 @@ use Rattle.jl_cmd.specs.Caches.{CallsLawfully, IsOfCall}
 use Rattle.jl_cmd.specs.Course.{Stretch, meanings, stretch}
 use Rattle.jl_cmd.specs.Output.{call_output}
 use Rattle.jl_cmd.specs.Computing.{Computes}
+use Rattle.jl_cmd.specs.Endings.{ReadFrom}
 use Rattle.jl_cmd.specs.Texts.{warning_lines}
 use Rattle.jl_cmd.proofs.CacheLemmas.{reads_over}
 use Rattle.jl_cmd.proofs.CallingLemmas.{Parts}
@@ -64,6 +65,7 @@ returns-in-Bytes-clause-ended g c =
       waits = waits;
       second = λ t. (lawful t).went;
       reads = λ t. reads_over c.args.file.now bytes c.in-Bytes.bytes old mid new (sym c.as_slice.ensures) (goes_waits old mid frame.token (waits t)) (lawful (frame.told t)).went (c.in-Bytes.ensures.reads t);
+      reading = λ t. subst (λ (k : List ℕ). ReadFrom c.args.file.now k old mid) (sym c.as_slice.ensures) (c.in-Bytes.ensures.reads t);
       located = c.in-Ok.ensures.location;
       named = c.in-Ok.ensures.module_name;
       by = by;
@@ -71,7 +73,7 @@ returns-in-Bytes-clause-ended g c =
     call_read v c.args.file.now c.args.location.now c.args.name.now c.args.args.now (g.O.Sink.view c.args.out.now) mid memory bytes parts (g.O.Sink.view c.written.new.out) c.compute-computed.result c.written.result.ended c.written.result.lines c.new-warnings.result.items c.compute-computed.new.warnings.items c.new-warnings.ensures.items
     (λ told. lawful (frame.told told))
     (subst (λ (p : PathView). Computes (call_output v.means bytes c.args.name.now c.args.args.now) (IsTrusted (root_of p) lib.answer mid new) c.compute-computed.result) c.in-Ok.ensures.location did.computes)
-    done.calls done.warns done.alone done.comes
+    done.calls done.warns done.alone done.comes done.task
     (λ refusal told. subst (λ (x : FolderView). Waits old x) (sym (ap folder.view (did.idle refusal).0)) (waits told))
     (λ refusal. ap (λ (x : HostView). x.moments) (ap host.view (did.idle refusal).1))
     c.written.ensures.writes c.written.ensures.calls

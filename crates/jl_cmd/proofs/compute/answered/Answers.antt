@@ -13,6 +13,7 @@ use Rattle.jl_cmd.proofs.CacheLemmas.{defined_named}
 use Rattle.jl_cmd.proofs.CallingLemmas.{asked_leaves, printed_at, failed_at}
 use Rattle.jl_cmd.proofs.ComingLemmas.{printed_with, failed_with, done_but}
 use Rattle.jl_cmd.proofs.IdleLemmas.{printed_refuses, failed_refuses}
+use Rattle.jl_cmd.proofs.TaskEnds.{printed_of, failed_of}
 use Rattle.jl_cmd.proofs.compute.answered.Goals as goal
 
 pub call_cached-requires-clause-function_name : goal.call_cached-requires-clause-function_name
@@ -53,6 +54,13 @@ returns-in-Hit-clause-comes g c = λ code n is line.
       clock = c.in-Hit.ensures.clock;
     })
 
+pub returns-in-Hit-clause-task : goal.returns-in-Hit-clause-task
+returns-in-Hit-clause-task g c = λ code n is line told. (
+  Hit c.in-Hit.value,
+  printed_of (Hit c.in-Hit.value) (prints (tree_of c.in-Hit.value)) c.printed.result c.printed.ensures.computes c.printed.ensures.printed (λ o same. same),
+  c.in-Hit.ensures.did code n is line told,
+)
+
 pub returns-in-Hit-clause-idle : goal.returns-in-Hit-clause-idle
 returns-in-Hit-clause-idle g c = λ refusal. absurd (printed_refuses c.printed.result c.printed.ensures.printed refusal)
 
@@ -90,6 +98,13 @@ returns-in-Computed-clause-comes g c = λ code n is line.
       order = c.in-Computed.ensures.order;
       clock = c.in-Computed.ensures.clock;
     })
+
+pub returns-in-Computed-clause-task : goal.returns-in-Computed-clause-task
+returns-in-Computed-clause-task g c = λ code n is line told. (
+  Computed c.in-Computed.value,
+  printed_of (Computed c.in-Computed.value) (prints (tree_of c.in-Computed.value)) c.printed-in-Computed.result c.printed-in-Computed.ensures.computes c.printed-in-Computed.ensures.printed (λ o same. same),
+  c.in-Computed.ensures.did code n is line told,
+)
 
 pub returns-in-Computed-clause-idle : goal.returns-in-Computed-clause-idle
 returns-in-Computed-clause-idle g c = λ refusal. absurd (printed_refuses c.printed-in-Computed.result c.printed-in-Computed.ensures.printed refusal)
@@ -129,6 +144,13 @@ returns-in-Error-clause-comes g c = λ code n is line.
       clock = c.in-Error.ensures.clock;
     })
 
+pub returns-in-Error-clause-task : goal.returns-in-Error-clause-task
+returns-in-Error-clause-task g c = λ code n is line told. (
+  Error c.in-Error.error,
+  failed_of (Error c.in-Error.error) (fails 0 c.in-Error.error) c.failed.result c.failed.ensures.computes c.failed.ensures.failed (λ o same. same),
+  c.in-Error.ensures.did code n is line told,
+)
+
 pub returns-in-Error-clause-idle : goal.returns-in-Error-clause-idle
 returns-in-Error-clause-idle g c = λ refusal. absurd (failed_refuses c.failed.result c.failed.ensures.failed refusal)
 
@@ -137,3 +159,6 @@ returns-in-NoMemory-clause-lawful g c = λ told.
     lawful_as (root_of c.args.memory.now.location) g.L.Library.answer (IsOfCall (root_of c.args.memory.now.location) c.args.memory.now.module c.args.name.now (g.F.Folder.view c.args.folder.now).token) _ _ _
     (λ (m : Move) k. (encode_lower (key_of c.args.args.now), c.call_cached.result, k))
     (c.call_cached.ensures.lawful told)
+
+pub returns-in-NoMemory-clause-task : goal.returns-in-NoMemory-clause-task
+returns-in-NoMemory-clause-task g c = λ code n is line told. (c.call_cached.result, tt, c.call_cached.ensures.did code n is line told)

@@ -32,4 +32,5 @@ returns-in-Ok-clause-computed g c =
           computed_map c.answered.result _ _
           (λ n h. (record { faultless = c.requires.faultless; found = found.0; members = c.in-Ok.args; defined = found.1; given = c.in-Ok.ensures.given }, h))
           (did.comes found.0 line found.1 refl);
+      task = λ told. inr (record { faultless = c.requires.faultless; found = found.0; members = c.in-Ok.args; defined = found.1; given = c.in-Ok.ensures.given }, did.task found.0 line found.1 refl told);
     }
