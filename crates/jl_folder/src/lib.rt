@@ -6,6 +6,7 @@ mod folder;
 mod law;
 mod listing;
 mod moves;
+mod open_table;
 mod read;
 
 pub use folder::{
@@ -16,4 +17,5 @@ pub use jl_text::{Bytes, Path, PathFault, Text, Token, TokenFault};
 pub use law::moves_keep_states;
 pub use listing::{Listed, Name, NameList};
 pub use moves::{Move, Node, OpenFile, Place};
+pub use open_table::{close_at, file_at, open_next};
 pub use read::{FileRead, OpenRead, read_file, read_open};

@@ -9,13 +9,13 @@ ghost use Rattle.jl_memory.specs.Children.{ListsHere};
 ghost use Rattle.jl_memory.specs.Steps.{Acts};
 
 use crate::children::children;
+use crate::copying::copy_out;
 use crate::memory::MemFolder;
-use crate::opens::{copy_out, file_of, open_new};
 use crate::script::fresh_number;
 use crate::tables::{has_child, node_of};
 use jl_folder::{
     Appended, Created, FileNo, Listed, MadeDir, Move, NameList, OpenFile, Opened, ReadAt, Removed,
-    RemovedDir, Renamed, SizeOf,
+    RemovedDir, Renamed, SizeOf, file_at, open_next,
 };
 use jl_text::Path;
 
@@ -64,7 +64,7 @@ impl MemFolder {
             Ok(()) => {}
             Err(_) => return Created::NoMemory,
         }
-        match open_new(&mut self.opens, OpenFile { node, made: true }) {
+        match open_next(&mut self.opens, OpenFile { node, made: true }) {
             Ok(number) => Created::Made(number),
             Err(_) => Created::NoMemory,
         }
@@ -166,7 +166,7 @@ impl MemFolder {
         let Some(node) = self.disk.file_at(path.parts()) else {
             return Opened::NoFile;
         };
-        match open_new(&mut self.opens, OpenFile { node, made: false }) {
+        match open_next(&mut self.opens, OpenFile { node, made: false }) {
             Ok(number) => Opened::Opened(number),
             Err(_) => Opened::NoMemory,
         }
@@ -183,7 +183,7 @@ impl MemFolder {
         ensures whole { IsTold self.old → ReadsAll self.new number.0 at (length buf.old) result }
         ensures fine { IsTold self.old → result ≢ ReadAt.Failed }
     {
-        let Some(file) = file_of(self.opens.as_slice(), number) else {
+        let Some(file) = file_at(self.opens.as_slice(), number) else {
             unreachable!();
         };
         let Some(node) = node_of(self.disk.nodes.as_slice(), file.node) else {

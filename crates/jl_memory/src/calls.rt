@@ -8,10 +8,9 @@ ghost use Rattle.jl_memory.specs.Memory.{IsTold, folder_view};
 ghost use Rattle.jl_memory.specs.Scripts.{PlaysScript, Obeys, ObeysAppend, AppendsAll, ReadsAll, TakesLeast};
 
 use crate::memory::MemFolder;
-use crate::opens::close_at;
 use jl_folder::{
     Appended, Created, FileNo, Folder, Listed, MadeDir, Opened, ReadAt, Removed, RemovedDir,
-    Renamed, SizeOf,
+    Renamed, SizeOf, close_at,
 };
 use jl_text::Path;
 

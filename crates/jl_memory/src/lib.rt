@@ -4,9 +4,9 @@
 mod acts;
 mod calls;
 mod children;
+mod copying;
 mod disk;
 mod memory;
-mod opens;
 mod script;
 mod tables;
 mod tree;

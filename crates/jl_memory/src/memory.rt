@@ -12,11 +12,10 @@ ghost use Rattle.jl_memory.specs.Scripts.{named_in, own_count, is_failing, is_cu
 ghost use Rattle.jl_memory.specs.Steps.{LetsOthers, Begins, Acts, MakesMove, Stays, AddsToNode};
 
 use crate::disk::Disk;
-use crate::opens::file_of;
 use crate::script::{OtherMoves, Stop, count_own, next_others, numbers_named};
 use crate::tables::node_of;
 use crate::tree::Tree;
-use jl_folder::{Appended, FileNo, Move, OpenFile, Place};
+use jl_folder::{Appended, FileNo, Move, OpenFile, Place, file_at};
 use jl_text::{Bytes, Path, Token};
 use std::alloc::{AllocError, Global};
 
@@ -244,7 +243,7 @@ impl MemFolder {
         ensures added { result ≡ true → AddsToNode number.0 piece.now self.old self.new }
         ensures none { result ≡ false → Stays self.old self.new }
     {
-        let Some(file) = file_of(self.opens.as_slice(), number) else {
+        let Some(file) = file_at(self.opens.as_slice(), number) else {
             unreachable!();
         };
         let Ok(copy) = Vec::from_slice(self.alloc, piece) else {

@@ -12,7 +12,7 @@ ghost use Rattle.std.specs.declared.io.ErrorKind.TheVariants.{NotFound, NotADire
 
 use jl_folder::{
     Appended, Created, FileNo, Folder, Listed, MadeDir, Name, NameList, OpenFile, Opened, ReadAt,
-    Removed, RemovedDir, Renamed, SizeOf,
+    Removed, RemovedDir, Renamed, SizeOf, close_at, open_next,
 };
 use jl_text::{Path, Text, Token, is_part};
 use std::alloc::{AllocError, Global};
@@ -76,17 +76,6 @@ fn is_file<R: Files>(rt: &R, path: &str) -> io::Result<bool> {
     }
 }
 
-// Puts a file under a new number.
-fn enter(table: &mut Vec<Option<OpenFile>>, file: OpenFile) -> Result<FileNo, AllocError>
-    ensures ok { IfOk result (λ number. (opens_of table.old.items number.0 ≡ None)
-        × (opens_of table.new.items ≡ put_open (opens_of table.old.items) number.0 file)) }
-    ensures err { OnErr result (table.new.items ≡ table.old.items) }
-{
-    let number = FileNo(table.len() as u64);
-    table.push(Some(file))?;
-    Ok(number)
-}
-
 // Opens a file under a number that never was open.
 fn open_new(
     table: &mut Vec<Option<OpenFile>>,
@@ -103,22 +92,12 @@ fn open_new(
     if files.insert(node, file).is_err() {
         return Err(AllocError);
     }
-    match enter(table, OpenFile { node, made }) {
+    match open_next(table, OpenFile { node, made }) {
         Ok(number) => Ok(number),
         Err(_) => {
             files.remove(&node);
             Err(AllocError)
         }
-    }
-}
-
-// Whatever this number was, it is open no longer.
-fn close_at(table: &mut Vec<Option<OpenFile>>, number: FileNo)
-    ensures { opens_of table.new.items ≡ closed (opens_of table.old.items) number.0 }
-{
-    let place = number.0 as usize;
-    if place < table.len() {
-        table[place] = None;
     }
 }
 

@@ -41,8 +41,8 @@ returns-in-Err-clause-acts c =
     let m = c.args.self.now in
     acts_stays m c.make.new.self _ _ c.in-Err.ensures.kept (λ e. cc) (λ t. inl refl)
 
-pub returns-in-Ok-open_new-clause-acts : goal.returns-in-Ok-open_new-clause-acts
-returns-in-Ok-open_new-clause-acts c =
+pub returns-in-Ok-open_next-clause-acts : goal.returns-in-Ok-open_next-clause-acts
+returns-in-Ok-open_next-clause-acts c =
     let m = c.args.self.now in
     let n = c.make.new.self in
     let named : IsTold m → place_at (mem_state m) c.args.path.now ≡ c.place.result = λ t. ap (place_at (mem_state m)) (sym c.parts.ensures.same) ∙ sym (c.place.ensures t.disk) in
@@ -53,17 +53,17 @@ returns-in-Ok-open_new-clause-acts c =
     let allowed : IsTold m → Allowed (mem_state m) (Create c.in-Ok.copy c.in-Some.node) = λ t. subst (λ p. Allowed (mem_state m) (Create p c.in-Some.node)) (sym c.in-Ok.ensures) (free t, parented t, unused t) in
     let made = c.in-Ok-make.ensures.made in
     let told : IsTold m → IsTold n = λ t. made.told t (allowed t) in
-    let number = c.in-Ok-open_new.number.0 in
+    let number = c.in-Ok-open_next.number.0 in
     let file : OpenFile = record { node = c.in-Some.node; made = true } in
-    acts_opened m n (record n { opens = c.open_new.new.opens }) _ _
+    acts_opened m n (record n { opens = c.open_next.new.opens }) _ _
     (acts_made m n (Create c.in-Ok.copy c.in-Some.node) _ _ made (λ e. cc)
-    (λ t. (allowed t, record { node = c.in-Some.node; free = free t; parented = parented t; unused = unused t; move_is = move_is; is_open = ap (λ f. f number) c.in-Ok-open_new.ensures.ok.1 ∙ put_here (opens_of n.opens.items) number file })))
-    (λ t. told_open n (record n { opens = c.open_new.new.opens }) (told t) refl refl refl refl (λ k f is. open_put (mem_state n) (opens_of n.opens.items) number file
-    (created_node m.disk n.disk m.token c.in-Ok.copy c.in-Some.node made.keeps.start made.trace) (told t).opens k f (ap (λ f. f k) (sym c.in-Ok-open_new.ensures.ok.1) ∙ is)))
+    (λ t. (allowed t, record { node = c.in-Some.node; free = free t; parented = parented t; unused = unused t; move_is = move_is; is_open = ap (λ f. f number) c.in-Ok-open_next.ensures.ok.1 ∙ put_here (opens_of n.opens.items) number file })))
+    (λ t. told_open n (record n { opens = c.open_next.new.opens }) (told t) refl refl refl refl (λ k f is. open_put (mem_state n) (opens_of n.opens.items) number file
+    (created_node m.disk n.disk m.token c.in-Ok.copy c.in-Some.node made.keeps.start made.trace) (told t).opens k f (ap (λ f. f k) (sym c.in-Ok-open_next.ensures.ok.1) ∙ is)))
     refl
 
-pub returns-in-Err-open_new-clause-acts : goal.returns-in-Err-open_new-clause-acts
-returns-in-Err-open_new-clause-acts c =
+pub returns-in-Err-open_next-clause-acts : goal.returns-in-Err-open_next-clause-acts
+returns-in-Err-open_next-clause-acts c =
     let m = c.args.self.now in
     let n = c.make.new.self in
     let named : IsTold m → place_at (mem_state m) c.args.path.now ≡ c.place.result = λ t. ap (place_at (mem_state m)) (sym c.parts.ensures.same) ∙ sym (c.place.ensures t.disk) in
@@ -74,20 +74,20 @@ returns-in-Err-open_new-clause-acts c =
     let allowed : IsTold m → Allowed (mem_state m) (Create c.in-Ok.copy c.in-Some.node) = λ t. subst (λ p. Allowed (mem_state m) (Create p c.in-Some.node)) (sym c.in-Ok.ensures) (free t, parented t, unused t) in
     let made = c.in-Ok-make.ensures.made in
     let told : IsTold m → IsTold n = λ t. made.told t (allowed t) in
-    acts_opened m n (record n { opens = c.open_new.new.opens }) _ _
+    acts_opened m n (record n { opens = c.open_next.new.opens }) _ _
     (acts_made m n (Create c.in-Ok.copy c.in-Some.node) _ _ made (λ e. cc) (λ t. (allowed t, inr (c.in-Some.node, move_is))))
-    (λ t. told_open n (record n { opens = c.open_new.new.opens }) (told t) refl refl refl refl (λ k f is. (told t).opens k f (ap (λ files. opens_of files k) (sym c.in-Err-open_new.ensures.err) ∙ is)))
+    (λ t. told_open n (record n { opens = c.open_next.new.opens }) (told t) refl refl refl refl (λ k f is. (told t).opens k f (ap (λ files. opens_of files k) (sym c.in-Err-open_next.ensures.err) ∙ is)))
     refl
 
-pub returns-in-Ok-open_new-clause-least : goal.returns-in-Ok-open_new-clause-least
-returns-in-Ok-open_new-clause-least c =
+pub returns-in-Ok-open_next-clause-least : goal.returns-in-Ok-open_next-clause-least
+returns-in-Ok-open_next-clause-least c =
     let m = c.args.self.now in
     let n = c.make.new.self in
     let made = c.in-Ok-make.ensures.made in
-    let number = c.in-Ok-open_new.number.0 in
+    let number = c.in-Ok-open_next.number.0 in
     let mine : OpenFile = record { node = c.in-Some.node; made = true } in
     let least : IsLeastFree m.disk.nodes.items m.named.items c.in-Some.node = subst (λ v. IsLeastFree m.disk.nodes.items v c.in-Some.node) c.as_slice-2.ensures.value (subst (λ es. IsLeastFree es c.as_slice-2.result.now c.in-Some.node) c.as_slice.ensures.value c.in-Some.ensures.least) in
     λ t file is.
-    let same : mine ≡ file = some_same (sym (ap (λ f. f number) c.in-Ok-open_new.ensures.ok.1 ∙ put_here (opens_of n.opens.items) number mine) ∙ is) in
+    let same : mine ≡ file = some_same (sym (ap (λ f. f number) c.in-Ok-open_next.ensures.ok.1 ∙ put_here (opens_of n.opens.items) number mine) ∙ is) in
     subst (λ f. (list_any (λ k. nat_eq k f.node) n.named.items ≡ false) × ((k : ℕ) → k < f.node → (is_some (node_at (mem_state n) k) || list_any (λ j. nat_eq j k) n.named.items) ≡ true)) same
     (least_after m n _ c.in-Some.node t made.keeps.start made.trace made.keeps.script.named least)
