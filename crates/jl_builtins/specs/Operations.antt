@@ -151,3 +151,8 @@ settle And (truth true) = Open
 settle And (truth false) = Known false
 settle And _ = Wrong
 settle _ _ = Both
+
+-- the whole number that an operation comes to, where it comes to one
+abbrev pub number_made : Result Tree TaskError → Option ℤ
+number_made (Ok (whole z)) = Some z
+number_made _ = None

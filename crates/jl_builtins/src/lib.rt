@@ -10,6 +10,7 @@ mod left_side;
 mod operations;
 mod same;
 
+pub use arithmetic::operate_wholes;
 pub use calls::{call, span};
 pub use laws::the_later_key_stands;
 pub use left_side::{Settled, settle};

@@ -13,6 +13,7 @@ ghost use Rattle.jl_operands.specs.Operands.{tree_of_operand, trees_gathered};
 ghost use Rattle.jl_operands.specs.Outcomes.{Evaluates};
 ghost use Rattle.jl_lang.specs.Outcomes.{IsTaken, IsLeft};
 
+use crate::numbers::evaluate_number;
 use crate::scope::Scope;
 use jl_builtins::{Settled, call, element, operate, operate_prefix, settle, span};
 use jl_lexer::{Function, Key, Name, Node, Operator, Prefix, Tree, Word};
@@ -272,7 +273,7 @@ fn list_over_values<'a>(
     count_list(values, steps)
 }
 
-// The value of an expression where a variable stands for a whole number.
+// The value of an expression where a variable stands for a whole number. Most such are arithmetic.
 #[cycle(evaluate)]
 fn at_number(
     alloc: Global,
@@ -287,7 +288,13 @@ fn at_number(
 {
     let item = Value::Whole(number);
     let inner = Scope::Variable(&*variable, &item, &*scope);
-    evaluate(alloc, &inner, member, steps)
+    match evaluate_number(&inner, member, steps) {
+        Some(found) => Ok(Counted {
+            value: Operand::Plain(Value::Whole(found.number)),
+            steps: found.steps,
+        }),
+        None => evaluate(alloc, &inner, member, steps),
+    }
 }
 
 #[cycle(evaluate)]

@@ -4,6 +4,7 @@
 mod evaluator;
 mod lang;
 mod laws;
+mod numbers;
 mod scope;
 
 pub use lang::Lang;
