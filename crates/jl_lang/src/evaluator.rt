@@ -16,7 +16,7 @@ ghost use Rattle.jl_lang.specs.Outcomes.{IsTaken, IsLeft};
 use crate::numbers::evaluate_number;
 use crate::scope::Scope;
 use jl_builtins::{Settled, call, element, operate, operate_prefix, settle, span};
-use jl_lexer::{Function, Key, Name, Node, Operator, Prefix, Tree, Word};
+use jl_lexer::{Entry, Function, Name, Node, Operator, Prefix, Tree, Word};
 use jl_operands::{
     CallFault, Counted, Gathered, Operand, Steps, count_copy, count_list, count_operand,
     count_table, count_value, source,
@@ -233,17 +233,17 @@ fn list_value(
 fn table_value(
     alloc: Global,
     scope: &Scope,
-    entries: &[(Key, Tree)],
+    entries: &[Entry],
     start: Steps,
 ) -> Result<Counted, CallFault>
     ensures { Evaluates result (entries_value (scope_of scope.now) (entries_in entries.now) [] start) }
 {
     let mut members = BTreeMap::new(alloc);
     let mut steps = start;
-    for (key, member) in entries {
-        let value = evaluate(alloc, scope, member, steps)?;
+    for entry in entries {
+        let value = evaluate(alloc, scope, entry.member(), steps)?;
         let member = value.value.into_value(alloc)?;
-        members.insert(key.text().copy()?.into_string(), member)?;
+        members.insert(entry.key().text().copy()?.into_string(), member)?;
         steps = value.steps;
     }
     count_table(alloc, members, steps)

@@ -6,10 +6,9 @@ use Rattle.jl_lexer.specs.Form.{expression_of}
 use Rattle.jl_lexer.specs.declared.tree.Node.{Node}
 use Rattle.jl_lexer.specs.declared.tree.Node.TheVariants.{Tall, Leaf, Bracketed, Before, Between, Choice, Index, Call, Span, Listed, Each, Filtered, Tabled}
 use Rattle.jl_lexer.specs.declared.tree.Entries.TheDeep.{deep-Node}
-use Rattle.jl_lexer.specs.declared.tree.Entries.TheShapes.{weighed-Entries-list-at-2}
 
 -- what the generated measure counts of a node is no more than the height
-pub deep_height : (n : Node) → max (deep-Node n) 0 ≤ 2 * height (expression_of n)
+pub deep_height : (n : Node) → max (deep-Node n) 0 ≤ 3 * height (expression_of n)
 deep_height Tall = omega arith
 deep_height (Leaf w) = omega arith
 deep_height (Bracketed e) = omega arith
@@ -25,18 +24,11 @@ deep_height (Filtered e x a c) = omega arith
 deep_height (Tabled es) = omega arith
 
 -- of the members of a list
-pub most_members : (es : List Expression) → most (λ e. 2 * height e + 1) es ≤ 2 * members_height (members_of es) + 1
+pub most_members : (es : List Expression) → most (λ e. 3 * height e + 1) es ≤ 3 * members_height (members_of es) + 1
 most_members [] = omega arith
 most_members (e ∷ es) = let later = most_members es in omega arith
 
--- what it counts of a key and a member
-abbrev pub weight_of_entry : List ℕ × Expression → ℕ
-weight_of_entry p = weighed-Entries-list-at-2.weight Expression (λ e. 2 * height e + 1) p
-
-pub entry_le : (p : List ℕ × Expression) → weight_of_entry p ≤ 2 * height p.1 + 1
-entry_le p = omega arith
-
--- of the members of a table
-pub most_entries : (ps : List (List ℕ × Expression)) → most weight_of_entry ps ≤ 2 * entries_height (entries_of ps) + 1
+-- of the keys and members of a table
+pub most_entries : (ps : List (List ℕ × Expression)) → most (λ p. 3 * height p.1 + 1 + 1) ps ≤ 3 * entries_height (entries_of ps) + 2
 most_entries [] = omega arith
-most_entries (p ∷ ps) = let here = entry_le p in let later = most_entries ps in omega arith
+most_entries (p ∷ ps) = let later = most_entries ps in omega arith

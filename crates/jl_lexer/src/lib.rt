@@ -12,6 +12,6 @@ mod words;
 pub use lexer::{begins_word, is_gap, is_mark, next_sign};
 pub use marks::{function, left_level, operator, own_level, prefix, prefix_level};
 pub use operators::{Function, Operator, Prefix};
-pub use tree::{Entries, Members, Node, Tree};
+pub use tree::{Entries, Entry, Members, Node, Tree};
 pub use word::{Key, Name, Word};
 pub use words::{is_def, is_identifier};

@@ -1,6 +1,7 @@
 ghost use Rattle.std.specs.Prelude.{◌≡◌, ◌≤◌, IfOk, max, suc, [], ◌∷◌, ◌++◌};
 ghost use Rattle.jl_lexer.specs.Trees.{leaf, bracketed, before, between, choice, index, call, span, list, each, filtered, table, height as height_of, members_of, members_height, entries_of, entries_height, kept as kept_of};
 ghost use Rattle.jl_lexer.specs.Form.{expression_of};
+ghost use Rattle.jl_text.specs.declared.limits.TheConstants.{MOST_BRACKETS};
 
 use crate::operators::{Function, Operator, Prefix};
 use crate::word::{Key, Name, Word};
@@ -43,16 +44,25 @@ pub struct Members<'a> {
     height: u32,
 }
 
+/// A key and a member of a table.
+#[cycle(tree)]
+#[derive(Drop)]
+pub struct Entry<'a> {
+    key: Key<'a>,
+    member: Tree<'a>,
+}
+
 /// The keys and members of a table.
 #[cycle(tree)]
 #[derive(Drop)]
 pub struct Entries<'a> {
-    list: Vec<(Key<'a>, Tree<'a>)>,
+    list: Vec<Entry<'a>>,
     height: u32,
 }
 
 impl<'a> Model for Tree<'a> {
-    ghost use Rattle.std.specs.Prelude.{◌≡◌, ◌≤◌, ◌*◌};
+    ghost use Rattle.std.specs.Prelude.{◌≡◌, ◌≤◌, suc, ◌*◌};
+    ghost use Rattle.jl_text.specs.declared.limits.TheConstants.{MOST_BRACKETS};
     ghost use Rattle.jl_lexer.specs.Trees.{Expression, height as height_of};
     ghost use Rattle.jl_lexer.specs.Codes.{coded_expression};
 
@@ -64,9 +74,9 @@ impl<'a> Model for Tree<'a> {
 
     ghost view = { λ t. expression_of t.node };
 
-    ghost invariant = { λ t. (t.height ≡ height_of (expression_of t.node)) × (t.height ≤ 129) };
+    ghost invariant = { λ t. (t.height ≡ height_of (expression_of t.node)) × (t.height ≤ suc MOST_BRACKETS) };
 
-    ghost size = { λ e. 2 * height_of e };
+    ghost size = { λ e. 3 * height_of e };
 
     ghost use Rattle.std.proofs.Common.{arith};
     ghost use Rattle.jl_lexer.specs.Falls.{deep_height};
@@ -75,7 +85,8 @@ impl<'a> Model for Tree<'a> {
 }
 
 impl<'a> Model for Members<'a> {
-    ghost use Rattle.std.specs.Prelude.{◌≡◌, ◌≤◌, ◌+◌, ◌*◌, List};
+    ghost use Rattle.std.specs.Prelude.{◌≡◌, ◌≤◌, suc, ◌+◌, ◌*◌, List};
+    ghost use Rattle.jl_text.specs.declared.limits.TheConstants.{MOST_BRACKETS};
     ghost use Rattle.jl_lexer.specs.Trees.{Expression, members_of, members_height};
     ghost use Rattle.jl_lexer.specs.Codes.{coded_expressions};
 
@@ -85,9 +96,9 @@ impl<'a> Model for Members<'a> {
 
     ghost view = { λ m. m.list.items };
 
-    ghost invariant = { λ m. (m.height ≡ members_height (members_of m.list.items)) × (m.height ≤ 129) };
+    ghost invariant = { λ m. (m.height ≡ members_height (members_of m.list.items)) × (m.height ≤ suc MOST_BRACKETS) };
 
-    ghost size = { λ es. 2 * members_height (members_of es) + 1 };
+    ghost size = { λ es. 3 * members_height (members_of es) + 1 };
 
     ghost use Rattle.std.proofs.Common.{arith};
     ghost use Rattle.jl_lexer.specs.Falls.{most_members};
@@ -95,8 +106,27 @@ impl<'a> Model for Members<'a> {
     ghost size_decreases = { λ a h. omega (arith, most_members a.list.items) };
 }
 
+impl<'a> Model for Entry<'a> {
+    ghost use Rattle.std.specs.Prelude.{◌≡◌, ◌+◌, ◌*◌, ℕ, List};
+    ghost use Rattle.jl_lexer.specs.Trees.{Expression, height as height_of};
+    ghost use Rattle.jl_lexer.specs.Codes.{coded_entry};
+
+    ghost Value = { List ℕ × Expression };
+
+    ghost coded = { coded_entry };
+
+    ghost view = { λ e. (e.key, e.member) };
+
+    ghost size = { λ e. 3 * height_of e.1 + 1 };
+
+    ghost use Rattle.std.proofs.Common.{arith};
+
+    ghost size_decreases = { λ a h. omega arith };
+}
+
 impl<'a> Model for Entries<'a> {
-    ghost use Rattle.std.specs.Prelude.{◌≡◌, ◌≤◌, ◌+◌, ◌*◌, ℕ, List};
+    ghost use Rattle.std.specs.Prelude.{◌≡◌, ◌≤◌, suc, ◌+◌, ◌*◌, ℕ, List};
+    ghost use Rattle.jl_text.specs.declared.limits.TheConstants.{MOST_BRACKETS};
     ghost use Rattle.jl_lexer.specs.Trees.{Expression, entries_of, entries_height};
     ghost use Rattle.jl_lexer.specs.Codes.{coded_entries};
 
@@ -106,9 +136,9 @@ impl<'a> Model for Entries<'a> {
 
     ghost view = { λ m. m.list.items };
 
-    ghost invariant = { λ m. (m.height ≡ entries_height (entries_of m.list.items)) × (m.height ≤ 129) };
+    ghost invariant = { λ m. (m.height ≡ entries_height (entries_of m.list.items)) × (m.height ≤ suc MOST_BRACKETS) };
 
-    ghost size = { λ es. 2 * entries_height (entries_of es) + 1 };
+    ghost size = { λ es. 3 * entries_height (entries_of es) + 2 };
 
     ghost use Rattle.std.proofs.Common.{arith};
     ghost use Rattle.jl_lexer.specs.Falls.{most_entries};
@@ -142,6 +172,20 @@ impl<'a> Members<'a> {
     }
 }
 
+impl<'a> Entry<'a> {
+    pub fn key(&self) -> &Key<'a>
+        ensures { result.now ≡ self.now.0 }
+    {
+        &self.key
+    }
+
+    pub fn member(&self) -> &Tree<'a>
+        ensures { result.now ≡ self.now.1 }
+    {
+        &self.member
+    }
+}
+
 impl<'a> Entries<'a> {
     pub fn new(alloc: Global) -> Entries<'a>
         ensures { result ≡ [] }
@@ -152,7 +196,7 @@ impl<'a> Entries<'a> {
         }
     }
 
-    pub fn as_slice(&self) -> &[(Key<'a>, Tree<'a>)]
+    pub fn as_slice(&self) -> &[Entry<'a>]
         ensures { result.now ≡ self.now }
     {
         self.list.as_slice()
@@ -163,7 +207,7 @@ impl<'a> Entries<'a> {
     {
         let Entries { mut list, height } = self;
         let height = height.max(member.height());
-        list.push((key, member))?;
+        list.push(Entry { key, member })?;
         Ok(Entries { list, height })
     }
 }
@@ -192,7 +236,7 @@ impl<'a> Tree<'a> {
     /// How high the tree is, up to one more than the limit.
     pub fn height(&self) -> u32
         ensures same { result ≡ height_of self.now }
-        ensures low { result ≤ 129 }
+        ensures low { result ≤ suc MOST_BRACKETS }
     {
         self.height
     }

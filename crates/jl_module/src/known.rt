@@ -7,7 +7,7 @@ ghost use Rattle.jl_module.specs.Headings.{are_known as are_known_of, members_kn
 ghost use Rattle.jl_module.specs.Scopes.{names_among};
 
 use crate::names::Names;
-use jl_lexer::{Key, Name, Node, Tree, Word, is_identifier};
+use jl_lexer::{Entry, Name, Node, Tree, Word, is_identifier};
 use std::alloc::{AllocError, Global};
 
 fn is_variable(variables: &[&[u8]], name: &[u8]) -> bool
@@ -148,13 +148,13 @@ fn entries_known<'a>(
     alloc: Global,
     names: &Names,
     variables: &[&'a [u8]],
-    entries: &[(Key<'a>, Tree<'a>)],
+    entries: &[Entry<'a>],
 ) -> Result<bool, AllocError>
     ensures { IfOk result
         (λ b. b ≡ entries_known_of (names_among variables.now names.now) (entries_of entries.now)) }
 {
-    for (_, member) in entries {
-        if !are_known(alloc, names, variables, member)? {
+    for entry in entries {
+        if !are_known(alloc, names, variables, entry.member())? {
             return Ok(false);
         }
     }

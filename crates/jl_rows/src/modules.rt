@@ -49,11 +49,11 @@ fn told_members(alloc: Global, node: &Node) -> Told {
         }
         Node::Tabled(entries) => match entries.as_slice() {
             [] => told::word(alloc, ", members: 0"),
-            [(key, member), ..] => {
+            [entry, ..] => {
                 let count = entries.as_slice().len();
                 let mut told = format!(in alloc; ", members: {count}, ")?;
-                told.push_str(told::text(alloc, key.text().as_str())?.as_str())?;
-                if let Node::Each(_, variable, _) = member.node() {
+                told.push_str(told::text(alloc, entry.key().text().as_str())?.as_str())?;
+                if let Node::Each(_, variable, _) = entry.member().node() {
                     told.push_str(" by ")?;
                     told.push_str(told::bytes(alloc, variable.bytes())?.as_str())?;
                 }

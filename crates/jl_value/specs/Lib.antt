@@ -1,4 +1,5 @@
 pub mod Tree
+pub mod Stored
 pub mod Codes
 pub mod Form
 pub mod Falls

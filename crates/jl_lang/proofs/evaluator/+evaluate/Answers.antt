@@ -5,7 +5,8 @@ use Rattle.std.proofs.lemmas.Int.{to_z-of_z, ints}
 use Rattle.jl_value.specs.Tree.{whole}
 use Rattle.jl_operands.specs.Lists.{wholes}
 use Rattle.jl_value.specs.Form.{tree_of, trees_of}
-use Rattle.jl_lexer.specs.Trees.{entries_of}
+use Rattle.jl_lexer.specs.Trees.{height, entries_of}
+use Rattle.jl_lexer.specs.Words.{key_in}
 use Rattle.jl_lexer.proofs.HeightLemmas.{member_height, entry_height}
 use Rattle.jl_operands.specs.Steps.{done}
 use Rattle.jl_operands.specs.Operands.{tree_of_operand, trees_gathered}
@@ -25,8 +26,8 @@ list_value-evaluate-requires t c =
 
 pub table_value-evaluate-requires : goal.table_value-evaluate-requires
 table_value-evaluate-requires t c =
-    let low = entry_height c.args.entries.now c.loop-key.key-index c.loop-key-item.result c.loop-key-test.true c.loop-key-item.is in
-    omega arith
+    let low = entry_height c.args.entries.now c.loop-entry.entry-index c.entry-item.result c.loop-entry-test.true c.entry-item.is in
+    omega (arith, ap height c.member.ensures)
 
 pub filter_over_values-returns-in_err-more : goal.filter_over_values-returns-in_err-more
 filter_over_values-returns-in_err-more t c =
@@ -69,21 +70,28 @@ filter_over_numbers-loop-number-preserved t c =
     (wholes (drop c.loop-number.number-index c.args.numbers.now)) _ _ (trees_gathered c.loop-number.taken.values) c.loop-number.taken.steps c.in_ok-taken.taken _
     (next_number c.args.numbers.now c.loop-number.number-index (pos 0) _ c.loop-number-test.true same) c.loop-number.invariant c.in_ok-taken.ensures
 
-pub table_value-loop-key-init : goal.table_value-loop-key-init
-table_value-loop-key-init t c = (
+pub table_value-loop-entry-init : goal.table_value-loop-entry-init
+table_value-loop-entry-init t c = (
   no_keys c.new-members.result.entries c.new-members.ensures.empty,
   ap (λ es. entries_value (scope_of c.args.scope.now) (entries_of c.args.entries.now) (pairs_in es) c.args.start) c.new-members.ensures.empty,
 )
 
-pub table_value-loop-key-preserved : goal.table_value-loop-key-preserved
-table_value-loop-key-preserved t c =
-    let text = c.into_string.ensures ∙ c.in_ok-copy.ensures in (
-      keys_with c.loop-key.members.entries c.insert.new.self.entries c.into_string.result c.in_ok-member.member c.loop-key-item.result.0 c.text.result.now
-          c.in_ok-insert.ensures.entries text c.text.ensures c.loop-key.invariant.0,
-      entry_more (scope_of c.args.scope.now) c.args.entries.now c.loop-key.key-index c.loop-key-item.result c.loop-key.members.entries c.insert.new.self.entries
-          c.into_string.result c.in_ok-member.member c.loop-key.steps c.in_ok-value.value.steps c.text.result.now _
-          c.loop-key-test.true c.loop-key-item.is c.in_ok-insert.ensures.entries text c.text.ensures
-          (c.in_ok-value.ensures ∙ ap (λ u. done u c.in_ok-value.value.steps) (sym c.in_ok-member.ensures)) c.loop-key.invariant.1,
+pub table_value-loop-entry-preserved : goal.table_value-loop-entry-preserved
+table_value-loop-entry-preserved t c =
+    let text = c.into_string.ensures ∙ c.in_ok-copy.ensures in
+    let named = ap key_in (sym c.key.ensures) ∙ c.text.ensures in
+    let made =
+    ap (λ e. value_of (scope_of c.args.scope.now) e c.loop-entry.steps) (sym c.member.ensures)
+    ∙ c.in_ok-value.ensures
+    ∙ ap (λ u. done u c.in_ok-value.value.steps) (sym c.in_ok-member.ensures) in (
+      keys_with c.loop-entry.members.entries c.insert.new.self.entries c.into_string.result
+          c.in_ok-member.member c.entry-item.result.0 c.text.result.now
+          c.in_ok-insert.ensures.entries text named c.loop-entry.invariant.0,
+      entry_more (scope_of c.args.scope.now) c.args.entries.now c.loop-entry.entry-index
+          c.entry-item.result c.loop-entry.members.entries c.insert.new.self.entries
+          c.into_string.result c.in_ok-member.member c.loop-entry.steps c.in_ok-value.value.steps
+          c.text.result.now _ c.loop-entry-test.true c.entry-item.is
+          c.in_ok-insert.ensures.entries text named made c.loop-entry.invariant.1,
     )
 
 pub list_of_each-returns : goal.list_of_each-returns

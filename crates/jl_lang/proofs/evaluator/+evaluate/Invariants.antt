@@ -84,10 +84,10 @@ invariant-list_value-loop-member l =
     members_value (scope_of l.scope) (members_of (drop l.member-index l.members)) (trees_gathered l.values) l.steps
     ≡ members_value (scope_of l.scope) (members_of l.members) [] l.fn.start
 
-abbrev pub invariant-table_value-loop-key : goal.invariant-table_value-loop-key
-invariant-table_value-loop-key l =
+abbrev pub invariant-table_value-loop-entry : goal.invariant-table_value-loop-entry
+invariant-table_value-loop-entry l =
     AreKeys (keys (pairs_of (pairs_in l.members.entries)))
-    × (entries_value (scope_of l.scope) (entries_of (drop l.key-index l.entries)) (pairs_in l.members.entries) l.steps ≡ entries_value (scope_of l.scope) (entries_of l.entries) [] l.fn.start)
+    × (entries_value (scope_of l.scope) (entries_of (drop l.entry-index l.entries)) (pairs_in l.members.entries) l.steps ≡ entries_value (scope_of l.scope) (entries_of l.entries) [] l.fn.start)
 
 abbrev pub invariant-list_over_values-loop-item : goal.invariant-list_over_values-loop-item
 invariant-list_over_values-loop-item l =

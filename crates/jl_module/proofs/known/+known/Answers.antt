@@ -1,4 +1,5 @@
-use Rattle.std.proofs.Common.{arith}
+use Rattle.std.proofs.Common.{ap, arith}
+use Rattle.jl_lexer.specs.Trees.{height}
 use Rattle.jl_lexer.proofs.HeightLemmas.{member_height, entry_height}
 use Rattle.jl_module.proofs.known.+known.Goals as goal
 
@@ -9,5 +10,5 @@ members_known-are_known-requires t c =
 
 pub entries_known-are_known-requires : goal.entries_known-are_known-requires
 entries_known-are_known-requires t c =
-    let low = entry_height c.args.entries.now c.loop-member.member-index c.loop-member-item.result c.loop-member-test.true c.loop-member-item.is in
-    (omega arith, tt)
+    let low = entry_height c.args.entries.now c.loop-entry.entry-index c.entry-item.result c.loop-entry-test.true c.entry-item.is in
+    (omega (arith, ap height c.member.ensures), tt)

@@ -28,5 +28,5 @@ decreases-entries_known l = 3 * entries_height (entries_of l.entries.now) + 1
 abbrev pub invariant-members_known-loop-member : goal.invariant-members_known-loop-member
 invariant-members_known-loop-member l = members_known (names_among l.variables l.names) (members_of (drop l.member-index l.members)) ≡ members_known (names_among l.variables l.names) (members_of l.members)
 
-abbrev pub invariant-entries_known-loop-member : goal.invariant-entries_known-loop-member
-invariant-entries_known-loop-member l = entries_known (names_among l.variables l.names) (entries_of (drop l.member-index l.entries)) ≡ entries_known (names_among l.variables l.names) (entries_of l.entries)
+abbrev pub invariant-entries_known-loop-entry : goal.invariant-entries_known-loop-entry
+invariant-entries_known-loop-entry l = entries_known (names_among l.variables l.names) (entries_of (drop l.entry-index l.entries)) ≡ entries_known (names_among l.variables l.names) (entries_of l.entries)
