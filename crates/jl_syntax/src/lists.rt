@@ -6,6 +6,7 @@ ghost use Rattle.jl_lexer.specs.Trees.{kept};
 ghost use Rattle.jl_syntax.specs.Steps.{IsStep};
 ghost use Rattle.jl_grammar.specs.Frames.{Listed};
 
+use crate::ends::end_table;
 use crate::reader::{Reader, Stop, open_bracket};
 use jl_grammar::{Frame, Mode, Operands, Single, Stack, Waiting};
 use jl_lexer::{Entries, Key, Members, Name, Tree, is_identifier, is_mark};
@@ -91,6 +92,8 @@ fn on_for_at<'a>(frame: Frame<'a>, stack: Stack<'a>, tree: Tree<'a>) -> Result<R
         Waiting::Members(members) => begin_source(members, stack, tree),
         other => {
             drop(other);
+            drop(tree);
+            drop(stack);
             Err(Stop::Bad)
         }
     }
@@ -116,12 +119,11 @@ fn on_curly_close_at<'a>(
     ensures { IsStep result (at_curly_close kept (frame.entry ∷ stack.entry) tree.entry) }
 {
     match frame.waiting {
-        Waiting::Entries(entries, key) => Ok(Reader {
-            stack,
-            mode: Mode::HasOperand(Tree::tabled(entries.with(key, tree)?)),
-        }),
+        Waiting::Entries(entries, key) => end_table(stack, entries, key, tree),
         other => {
             drop(other);
+            drop(tree);
+            drop(stack);
             Err(Stop::Bad)
         }
     }

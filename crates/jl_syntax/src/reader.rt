@@ -1,12 +1,13 @@
 // A shift-reduce reader of expressions, sign by sign.
-ghost use Rattle.std.specs.Prelude.{◌≡◌, ◌∷◌, [], ◌<◌, true};
+ghost use Rattle.std.specs.Prelude.{◌≡◌, ◌∷◌, [], ◌<◌, true, false};
 ghost use Rattle.jl_text.specs.declared.limits.TheConstants.{MOST_BRACKETS};
 ghost use Rattle.jl_grammar.specs.Parser.{is_bracket, depth, with_bracket, at_prefix, at_operand, at_operator, at_condition, at_filter, at_if, at_opening, at_else, at_round_close, at_square_close, at_bound, at_comma, at_call, at_joint, step as step_of, finished, whole_tree_of, run};
 ghost use Rattle.jl_lexer.specs.Trees.{kept};
-ghost use Rattle.jl_syntax.specs.Steps.{IsStep, IsRead};
+ghost use Rattle.jl_syntax.specs.Steps.{IsStep, IsRead, with_frame};
 ghost use Rattle.jl_grammar.specs.declared.mode.Mode.TheVariants.{WantsOperand};
 ghost use Rattle.jl_lexer.specs.Signs.{signs};
 
+use crate::ends::{end_brackets, end_call, end_each, end_filtered, end_index, end_list, end_span};
 use crate::lists::{
     begin_table, on_colon, on_curly_close, on_empty_close, on_for, on_in, on_key, on_variable,
 };
@@ -14,8 +15,8 @@ use jl_grammar::{
     Bare, Double, Frame, Joint, Mode, Operands, Single, Stack, Waiting, read_joint, reduce,
 };
 use jl_lexer::{
-    Function, Members, Name, Operator, Prefix, Tree, Word, function, is_mark, left_level,
-    next_sign, own_level, prefix, prefix_level,
+    Function, Members, Operator, Prefix, Tree, Word, function, is_mark, left_level, next_sign,
+    own_level, prefix, prefix_level,
 };
 use jl_text::limits::MOST_BRACKETS;
 use std::alloc::{AllocError, Global};
@@ -60,19 +61,34 @@ pub(crate) fn open_bracket<'a>(frame: Frame<'a>, stack: Stack<'a>) -> Result<Rea
     })
 }
 
-fn on_prefix<'a>(stack: Stack<'a>, prefix: Option<Prefix>) -> Result<Reader<'a>, Stop>
-    ensures { IsStep result (at_prefix stack.entry prefix) }
+// What waits for one operand more, which binds as tight as this level. Where what waits already
+// wants a tighter one, nothing of this level stands.
+fn push_frame<'a>(level: u32, frame: Frame<'a>, stack: Stack<'a>) -> Result<Reader<'a>, Stop>
+    requires { is_bracket frame ≡ false }
+    ensures { IsStep result (with_frame level frame.entry stack.entry) }
 {
-    let Some(prefix) = prefix else {
-        return Err(Stop::Bad);
-    };
-    if stack.wanted() > prefix_level(prefix) {
+    if stack.wanted() > level {
+        drop(frame);
+        drop(stack);
         return Err(Stop::Bad);
     }
     Ok(Reader {
-        stack: stack.push(Frame::bare(Bare::Behind(prefix)))?,
+        stack: stack.push(frame)?,
         mode: Mode::WantsOperand,
     })
+}
+
+fn on_prefix<'a>(stack: Stack<'a>, prefix: Option<Prefix>) -> Result<Reader<'a>, Stop>
+    ensures { IsStep result (at_prefix stack.entry prefix) }
+{
+    match prefix {
+        Some(prefix) => push_frame(
+            prefix_level(prefix),
+            Frame::bare(Bare::Behind(prefix)),
+            stack,
+        ),
+        None => Err(Stop::Bad),
+    }
 }
 
 // A bracket where an operand begins, a function's name, or what may stand before an operand.
@@ -123,29 +139,19 @@ fn on_call<'a>(function: Function, stack: Stack<'a>, sign: &[u8]) -> Result<Read
 }
 
 fn on_operator<'a>(operator: Operator, operands: Operands<'a>) -> Result<Reader<'a>, Stop>
-    ensures { IsStep result (at_operator operator (record { frames = operands.entry.stack; tree = operands.entry.tree })) }
+    ensures { IsStep result (at_operator operator
+        (record { frames = operands.entry.stack; tree = operands.entry.tree })) }
 {
     let Operands { stack, tree } = operands;
-    if stack.wanted() > own_level(operator) {
-        return Err(Stop::Bad);
-    }
-    Ok(Reader {
-        stack: stack.push(Frame::single(Single::Operand(operator), tree))?,
-        mode: Mode::WantsOperand,
-    })
+    let frame = Frame::single(Single::Operand(operator), tree);
+    push_frame(own_level(operator), frame, stack)
 }
 
 // An `if` where a condition of a choice may follow.
 fn begin_condition<'a>(stack: Stack<'a>, tree: Tree<'a>) -> Result<Reader<'a>, Stop>
     ensures { IsStep result (at_condition stack.entry tree.entry) }
 {
-    if stack.wanted() > 0 {
-        return Err(Stop::Bad);
-    }
-    Ok(Reader {
-        stack: stack.push(Frame::single(Single::Condition, tree))?,
-        mode: Mode::WantsOperand,
-    })
+    push_frame(0, Frame::single(Single::Condition, tree), stack)
 }
 
 // An `if` behind the list that a list goes over, which waits on top.
@@ -164,6 +170,8 @@ fn begin_filter_at<'a>(
         }),
         other => {
             drop(other);
+            drop(tree);
+            drop(stack);
             Err(Stop::Bad)
         }
     }
@@ -200,6 +208,8 @@ fn on_else_at<'a>(frame: Frame<'a>, stack: Stack<'a>, tree: Tree<'a>) -> Result<
         }),
         other => {
             drop(other);
+            drop(tree);
+            drop(stack);
             Err(Stop::Bad)
         }
     }
@@ -225,20 +235,13 @@ fn on_round_close_at<'a>(
     ensures { IsStep result (at_round_close kept (frame.entry ∷ stack.entry) tree.entry) }
 {
     match frame.waiting {
-        Waiting::NoOperand(Bare::Bracket) => Ok(Reader {
-            stack,
-            mode: Mode::HasOperand(Tree::bracketed(alloc, tree)?),
-        }),
-        Waiting::NoOperand(Bare::Member(function)) => Ok(Reader {
-            stack,
-            mode: Mode::HasOperand(Tree::call(alloc, function, tree)?),
-        }),
-        Waiting::OneOperand(Single::Bound, first) => Ok(Reader {
-            stack,
-            mode: Mode::HasOperand(Tree::span(alloc, first, tree)?),
-        }),
+        Waiting::NoOperand(Bare::Bracket) => end_brackets(alloc, stack, tree),
+        Waiting::NoOperand(Bare::Member(function)) => end_call(alloc, stack, function, tree),
+        Waiting::OneOperand(Single::Bound, first) => end_span(alloc, stack, first, tree),
         other => {
             drop(other);
+            drop(tree);
+            drop(stack);
             Err(Stop::Bad)
         }
     }
@@ -264,30 +267,18 @@ fn on_square_close_at<'a>(
     ensures { IsStep result (at_square_close kept (frame.entry ∷ stack.entry) tree.entry) }
 {
     match frame.waiting {
-        Waiting::OneOperand(Single::Element, list) => Ok(Reader {
-            stack,
-            mode: Mode::HasOperand(Tree::index(alloc, list, tree)?),
-        }),
-        Waiting::Members(members) => Ok(Reader {
-            stack,
-            mode: Mode::HasOperand(Tree::listed(members.with(tree)?)),
-        }),
-        Waiting::OneOperand(Single::Source(variable), member) => Ok(Reader {
-            stack,
-            mode: Mode::HasOperand(Tree::each(alloc, member, Name::new(variable), tree)?),
-        }),
-        Waiting::TwoOperands(Double::Filter(variable), member, source) => Ok(Reader {
-            stack,
-            mode: Mode::HasOperand(Tree::filtered(
-                alloc,
-                member,
-                Name::new(variable),
-                source,
-                tree,
-            )?),
-        }),
+        Waiting::OneOperand(Single::Element, list) => end_index(alloc, stack, list, tree),
+        Waiting::Members(members) => end_list(stack, members, tree),
+        Waiting::OneOperand(Single::Source(variable), member) => {
+            end_each(alloc, stack, member, variable, tree)
+        }
+        Waiting::TwoOperands(Double::Filter(variable), member, source) => {
+            end_filtered(alloc, stack, member, variable, source, tree)
+        }
         other => {
             drop(other);
+            drop(tree);
+            drop(stack);
             Err(Stop::Bad)
         }
     }
@@ -313,7 +304,11 @@ fn begin_bound<'a>(function: Function, stack: Stack<'a>, tree: Tree<'a>) -> Resu
             stack: stack.open(Frame::single(Single::Bound, tree))?,
             mode: Mode::WantsOperand,
         }),
-        _ => Err(Stop::Bad),
+        _ => {
+            drop(tree);
+            drop(stack);
+            Err(Stop::Bad)
+        }
     }
 }
 
@@ -334,6 +329,8 @@ fn on_comma_at<'a>(frame: Frame<'a>, stack: Stack<'a>, tree: Tree<'a>) -> Result
         }),
         other => {
             drop(other);
+            drop(tree);
+            drop(stack);
             Err(Stop::Bad)
         }
     }
@@ -381,6 +378,7 @@ fn whole_tree(operands: Operands<'_>) -> Result<Tree<'_>, Stop>
     match stack.pop() {
         Some(top) => {
             drop(top);
+            drop(tree);
             Err(Stop::Bad)
         }
         None => Ok(tree),
