@@ -1,0 +1,12 @@
+pub mod AppendLemmas
+pub mod CompareLemmas
+pub mod DumpLemmas
+pub mod FillLemmas
+pub mod JudgeLemmas
+pub mod LawLemmas
+pub mod NodeFacts
+pub mod Numerals
+pub mod Parts
+pub mod RangeLemmas
+pub mod Spared
+pub mod Turned

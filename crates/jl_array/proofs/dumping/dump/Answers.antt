@@ -1,0 +1,56 @@
+use Rattle.std.proofs.Common.{[], subst}
+use Rattle.jl_folder.proofs.Opens.{IsMade-new}
+use Rattle.jl_rely.proofs.Composed.{retold}
+use Rattle.jl_array.specs.declared.appending.Wrote.TheVariants as wrote
+use Rattle.jl_array.specs.Dumps.{dump_text}
+use Rattle.jl_array.specs.Dumping.{Dumping, IsWritten, Written}
+use Rattle.jl_array.proofs.DumpLemmas.{made_stops, dump_done, dump_stops}
+use Rattle.jl_array.proofs.dumping.dump.Goals as goal
+
+-- the file was made, and all was written
+pub returns-in-All-clause-dumps : goal.returns-in-All-clause-dumps
+returns-in-All-clause-dumps g c = λ t.
+    let old = g.F.Folder.view c.args.folder.now in
+    let mid = g.F.Folder.view c.create.new.self in
+    let new = g.F.Folder.view c.write_file.new.folder in
+    let path = c.args.path.now in
+    let made = IsMade-new c.in-Made.number.0 old.opens mid.opens c.in-Made.ensures.opens in
+    dump_done path c.args.numbers.now old mid new c.in-Made.number.0 made.0 c.create.ensures.frame.token (g.met.F.Folder.lawful c.args.folder.now t) made.1 (c.in-Made.ensures.call t)
+    (subst (λ ns. Dumping path mid.token (IsWritten mid.token path made.0.node []) (Written mid.token path made.0.node [] (dump_text ns) wrote.All) mid new) c.as_slice.ensures
+    (c.in-All.ensures.called (c.create.ensures.frame.told t) made.0 made.1 path []))
+
+-- or a front
+pub returns-in-Fault-clause-dumps : goal.returns-in-Fault-clause-dumps
+returns-in-Fault-clause-dumps g c = λ t.
+    let old = g.F.Folder.view c.args.folder.now in
+    let mid = g.F.Folder.view c.create.new.self in
+    let new = g.F.Folder.view c.write_file.new.folder in
+    let path = c.args.path.now in
+    let made = IsMade-new c.in-Made.number.0 old.opens mid.opens c.in-Made.ensures.opens in
+    dump_stops path c.args.numbers.now old mid new c.in-Made.number.0 made.0 c.create.ensures.frame.token (g.met.F.Folder.lawful c.args.folder.now t) made.1 (c.in-Made.ensures.call t)
+    (subst (λ ns. Dumping path mid.token (IsWritten mid.token path made.0.node []) (Written mid.token path made.0.node [] (dump_text ns) wrote.Fault) mid new) c.as_slice.ensures
+    (c.in-Fault.ensures.called (c.create.ensures.frame.told t) made.0 made.1 path []))
+
+pub returns-in-NoMemory-write_file-clause-dumps : goal.returns-in-NoMemory-write_file-clause-dumps
+returns-in-NoMemory-write_file-clause-dumps g c = λ t.
+    let old = g.F.Folder.view c.args.folder.now in
+    let mid = g.F.Folder.view c.create.new.self in
+    let new = g.F.Folder.view c.write_file.new.folder in
+    let path = c.args.path.now in
+    let made = IsMade-new c.in-Made.number.0 old.opens mid.opens c.in-Made.ensures.opens in
+    dump_stops path c.args.numbers.now old mid new c.in-Made.number.0 made.0 c.create.ensures.frame.token (g.met.F.Folder.lawful c.args.folder.now t) made.1 (c.in-Made.ensures.call t)
+    (subst (λ ns. Dumping path mid.token (IsWritten mid.token path made.0.node []) (Written mid.token path made.0.node [] (dump_text ns) wrote.NoMemory) mid new) c.as_slice.ensures
+    (c.in-NoMemory-write_file.ensures.called (c.create.ensures.frame.told t) made.0 made.1 path []))
+
+-- the file was made or not
+pub returns-in-Failed-clause-dumps : goal.returns-in-Failed-clause-dumps
+returns-in-Failed-clause-dumps g c = λ t.
+    let old = g.F.Folder.view c.args.folder.now in
+    let mid = g.F.Folder.view c.create.new.self in
+    made_stops c.args.path.now old mid c.create.ensures.frame.token c.args.numbers.now (g.met.F.Folder.lawful c.args.folder.now t) (retold old mid _ _ (λ s own h. h) (c.in-Failed.ensures.call t))
+
+pub returns-in-NoMemory-clause-dumps : goal.returns-in-NoMemory-clause-dumps
+returns-in-NoMemory-clause-dumps g c = λ t.
+    let old = g.F.Folder.view c.args.folder.now in
+    let mid = g.F.Folder.view c.create.new.self in
+    made_stops c.args.path.now old mid c.create.ensures.frame.token c.args.numbers.now (g.met.F.Folder.lawful c.args.folder.now t) (retold old mid _ _ (λ s own h. h) (c.in-NoMemory.ensures.call t))

@@ -1,0 +1,21 @@
+use Rattle.std.proofs.Common.{◌≤◌, ◌-◌, length, take}
+use Rattle.jl_folder.specs.Views.{FolderAnswers}
+use Rattle.jl_folder.specs.Calls.{Waits}
+use Rattle.jl_array.specs.Dumps.{HasPart}
+use Rattle.jl_array.specs.Nodes.{OpenHas}
+use Rattle.jl_array.proofs.filling.fill.Given as goal
+
+-- the front of the buffer holds what stands in the file from the place on
+abbrev pub invariant-loop-have : goal.invariant-loop-have
+invariant-loop-have g l =
+    let old = g.F.Folder.view l.initial.folder in
+    let new = g.F.Folder.view l.folder in
+    record {
+      frame : FolderAnswers (⊥) old new;
+      waits : old.told → Waits old new;
+      within : l.have ≤ length l.buf;
+      so_far : old.told → OpenHas l.number.0 (HasPart l.at (take l.have l.buf)) new;
+    }
+
+abbrev pub decreases-loop-have : goal.decreases-loop-have
+decreases-loop-have g l = length l.buf - l.have

@@ -1,0 +1,4 @@
+pub mod Answers
+pub mod Dumps
+pub mod Dumping
+pub mod Nodes
