@@ -5,7 +5,9 @@ use Rattle.jl_folder.specs.Views.{FolderView, FolderAnswers, FolderTurns}
 use Rattle.jl_folder.proofs.Frames.{faults_next}
 
 -- a call after one that didn't fail
-pub turned_next : {Fails Fails' Fails'' : Type 0} (a b c : FolderView) → FolderTurns Fails a b → (Fails → ⊥) → FolderAnswers Fails' b c → (Fails'' → Fails') → (Fails' → Fails'') → FolderTurns Fails'' a c
+pub turned_next : {Fails Fails' Fails'' : Type 0} (a b c : FolderView) → FolderTurns Fails a b
+    → (Fails → ⊥) → FolderAnswers Fails' b c → (Fails'' → Fails') → (Fails' → Fails'')
+    → FolderTurns Fails'' a c
 turned_next a b c f well g to from = record {
   told = λ t. g.told (f.told t);
   token = g.token ∙ f.token;
@@ -13,7 +15,9 @@ turned_next a b c f well g to from = record {
 }
 
 -- two calls that open or close, of which the first didn't fail
-pub turned_twice : {Fails Fails' Fails'' : Type 0} (a b c : FolderView) → FolderTurns Fails a b → (Fails → ⊥) → FolderTurns Fails' b c → (Fails'' → Fails') → (Fails' → Fails'') → FolderTurns Fails'' a c
+pub turned_twice : {Fails Fails' Fails'' : Type 0} (a b c : FolderView) → FolderTurns Fails a b
+    → (Fails → ⊥) → FolderTurns Fails' b c → (Fails'' → Fails') → (Fails' → Fails'')
+    → FolderTurns Fails'' a c
 turned_twice a b c f well g to from = record {
   told = λ t. g.told (f.told t);
   token = g.token ∙ f.token;
@@ -21,7 +25,8 @@ turned_twice a b c f well g to from = record {
 }
 
 -- a call, and a closing, which never fails
-pub turned_closed : {Fails : Type 0} (a b c : FolderView) → FolderAnswers Fails a b → FolderTurns (⊥) b c → FolderTurns Fails a c
+pub turned_closed : {Fails : Type 0} (a b c : FolderView) → FolderAnswers Fails a b
+    → FolderTurns (⊥) b c → FolderTurns Fails a c
 turned_closed {Fails} a b c f g = record {
   told = λ t. g.told (f.told t);
   token = g.token ∙ f.token;
@@ -29,5 +34,7 @@ turned_closed {Fails} a b c f g = record {
 }
 
 -- where the same numbers are open as before
-pub turned_answers : {Fails : Type 0} (a b : FolderView) → FolderTurns Fails a b → b.opens ≡ a.opens → FolderAnswers Fails a b
-turned_answers a b f opens = record { told = f.told; token = f.token; opens = opens; faults = f.faults }
+pub turned_answers : {Fails : Type 0} (a b : FolderView) → FolderTurns Fails a b → b.opens ≡ a.opens
+    → FolderAnswers Fails a b
+turned_answers a b f opens =
+    record { told = f.told; token = f.token; opens = opens; faults = f.faults }

@@ -27,7 +27,8 @@ use Rattle.jl_array.specs.declared.comparing.SameArray.TheVariants as same_array
 -- the buffer holds the file's bytes from this place on, or the file ends before the buffer does
 abbrev pub FillsFrom : ℕ → ℕ → List ℕ → PartRead → FolderView → Type 0
 FillsFrom number at buf part_read.Whole v = OpenHas number (HasPart at buf) v
-FillsFrom number at buf part_read.Short v = OpenHas number (λ bytes. length bytes < at + length buf) v
+FillsFrom number at buf part_read.Short v =
+    OpenHas number (λ bytes. length bytes < at + length buf) v
 FillsFrom number at buf part_read.Fault v = ⊤
 
 -- the same of numbers
@@ -103,7 +104,8 @@ abbrev pub range_count : ArrayFile → ℕ → ℕ → ℕ
 range_count array from room = min room (array.count - from)
 
 -- that many were filled in, and what lies behind them is as it was; told by every folder
-pub record RangeFills (array : ArrayFile) (from : ℕ) (out out' : List ℤ) (result : Ranged) : Type 0 where
+pub record RangeFills (array : ArrayFile) (from : ℕ) (out out' : List ℤ)
+    (result : Ranged) : Type 0 where
   pub count : (k : ℕ) → result ≡ ranged.Filled k → k ≡ range_count array from (length out)
   pub rest : drop (range_count array from (length out)) out'
       ≡ drop (range_count array from (length out)) out
@@ -125,7 +127,8 @@ RangesList list from out ranged.FolderFault = ⊤
 
 -- ---- a comparison
 
--- behind its head the file has these bytes; or other ones; or it ends first, and has a front of them
+-- behind its head the file has these bytes; or other ones; or it ends first, and has a front of
+-- them
 abbrev pub ComparesBytes : ℕ → List ℕ → SameArray → FolderView → Type 0
 ComparesBytes number part same_array.Yes v = OpenHas number (HasPart 15 part) v
 ComparesBytes number part same_array.No v = OpenHas number (DiffersFrom part) v

@@ -62,7 +62,8 @@ abbrev pub Spares : PathView → List ℕ → StepFact
 Spares path mine token s m = token ≢ mine → (Touches m path → ⊥) × (AppendsTo path s m → ⊥)
 
 -- Own moves make this file or append pieces, whatever others do.
--- Begun where Pre held, each is on the own unfrozen file that the path names, wherever others spared it before;
+-- Begun where Pre held, each is on the own unfrozen file that the path names, wherever others spared
+-- it before;
 -- and where all of them spare it, the call ends where Post holds.
 abbrev pub Dumping : PathView → List ℕ → (Pre Post : State → Type 0) → (old new : FolderView)
     → Type 0
@@ -73,7 +74,8 @@ Dumping path mine Pre Post old new =
 
 -- the path alone names this node, which this run made, which isn't frozen, and which has these
 -- bytes
-pub record IsWritten (token : List ℕ) (path : PathView) (n : ℕ) (bytes : List ℕ) (s : State) : Type 0 where
+pub record IsWritten (token : List ℕ) (path : PathView) (n : ℕ) (bytes : List ℕ)
+    (s : State) : Type 0 where
   pub named : place_at s path ≡ Some (File n)
   pub node : node_at s n ≡ Some (record { bytes = bytes; maker = token; frozen = false })
   pub only : (p : PathView) → place_at s p ≡ Some (File n) → p ≡ path

@@ -21,7 +21,8 @@ pub(crate) fn fill<F: Folder>(folder: &mut F, number: FileNo, at: u64, buf: &mut
     ensures waits { (F.view folder.old).told → Waits (F.view folder.old) (F.view folder.new) }
     ensures fills { (F.view folder.old).told
         → FillsFrom number.0 at buf.new result (F.view folder.new) }
-    ensures frame { FolderAnswers (result ≡ PartRead.Fault) (F.view folder.old) (F.view folder.new) }
+    ensures frame { FolderAnswers (result ≡ PartRead.Fault) (F.view folder.old)
+        (F.view folder.new) }
 {
     let mut have = 0;
     while have < buf.len() {

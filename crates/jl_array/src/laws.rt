@@ -1,8 +1,10 @@
 // What the texts of dump files tell.
 ghost use Rattle.std.specs.Prelude.{◌≡◌, ◌<◌, ◌^◌, ℕ, ℤ, List, [], ◌++◌, length, All};
-ghost use Rattle.jl_array.specs.Dumps.{dump_text, dump_length, AreSigned, IsCutOff, IsNoDump, IsDump, HoldsList};
+ghost use Rattle.jl_array.specs.Dumps.{dump_text, dump_length, AreSigned};
+ghost use Rattle.jl_array.specs.Dumps.{IsCutOff, IsNoDump, IsDump, HoldsList};
 
-/// Two lists have two texts, of 15 bytes and 8 for each number. No text is a proper front of another.
+/// Two lists have two texts, of 15 bytes and 8 for each number. No text is a proper front of
+/// another.
 pub fn dumps_are_told_apart()
     ensures injective { (xs ys : List ℤ) → AreSigned xs → AreSigned ys
         → dump_text xs ≡ dump_text ys → xs ≡ ys }
@@ -11,8 +13,8 @@ pub fn dumps_are_told_apart()
         → dump_text ys ≡ dump_text xs ++ rest → rest ≡ [] }
 {}
 
-/// A file is an array, cut off, or none, and never two of these. The text of a list is an array of its
-/// count, and an array's bytes are the text of one list.
+/// A file is an array, cut off, or none, and never two of these. The text of a list is an array of
+/// its count, and an array's bytes are the text of one list.
 pub fn files_are_judged_one_way()
     ensures not_cut_off { (count : ℕ) (file : List ℕ) → IsDump count file → IsCutOff file → ⊥ }
     ensures not_none { (count : ℕ) (file : List ℕ) → IsDump count file → IsNoDump file → ⊥ }

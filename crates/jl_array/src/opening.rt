@@ -5,7 +5,8 @@ ghost use Rattle.jl_folder.specs.Views.{FolderAnswers, FolderTurns};
 ghost use Rattle.jl_folder.specs.Calls.{IsOpen, Waits};
 ghost use Rattle.jl_array.specs.Dumps.{dump_length, SaysCount};
 ghost use Rattle.jl_array.specs.Nodes.{OpenHas};
-ghost use Rattle.jl_array.specs.Answers.{JudgesFile, IsCountable, answer_to, OpensArray, ArrayOpens};
+ghost use Rattle.jl_array.specs.Answers.{JudgesFile, IsCountable, answer_to};
+ghost use Rattle.jl_array.specs.Answers.{OpensArray, ArrayOpens};
 
 use crate::blocks::{HEAD_BYTES, count_of};
 use crate::filling::{PartRead, fill};

@@ -4,7 +4,8 @@ ghost use Rattle.jl_text.specs.declared.limits.TheConstants.{PIECE_BYTES};
 ghost use Rattle.jl_folder.specs.Views.{FolderAnswers};
 ghost use Rattle.jl_folder.specs.Calls.{IsOpen, Waits};
 ghost use Rattle.jl_array.specs.Dumps.{dump_length, AreSigned};
-ghost use Rattle.jl_array.specs.Answers.{FillsNumbers, HoldsArray, RangeFills, RangesFile, RangesList};
+ghost use Rattle.jl_array.specs.Answers.{FillsNumbers, HoldsArray};
+ghost use Rattle.jl_array.specs.Answers.{RangeFills, RangesFile, RangesList};
 
 use crate::blocks::{BLOCK_NUMBERS, HEAD_BYTES, new_block, take_numbers};
 use crate::filling::{PartRead, fill};
@@ -34,7 +35,8 @@ fn fill_numbers<F: Folder>(
     ensures fills { (F.view folder.old).told
         → FillsNumbers number.0 at out.new result (F.view folder.new) }
     ensures signed { result ≡ PartRead.Whole → AreSigned out.new }
-    ensures frame { FolderAnswers (result ≡ PartRead.Fault) (F.view folder.old) (F.view folder.new) }
+    ensures frame { FolderAnswers (result ≡ PartRead.Fault) (F.view folder.old)
+        (F.view folder.new) }
 {
     let mut have = 0;
     while have < out.len() {
@@ -50,8 +52,8 @@ fn fill_numbers<F: Folder>(
     PartRead::Whole
 }
 
-/// Reads the numbers from one place on, as many as there are and as `out` holds. After a refusal the
-/// front of `out` holds any numbers.
+/// Reads the numbers from one place on, as many as there are and as `out` holds. After a refusal
+/// the front of `out` holds any numbers.
 pub fn range<F: Folder>(folder: &mut F, array: &ArrayFile, from: u64, out: &mut [i64]) -> Ranged
     requires is_open { IsOpen (F.view folder.old).opens array.now.no.0 }
     requires countable { dump_length array.now.count < 2 ^ 64 }

@@ -22,6 +22,7 @@ pub returns-clause-some : goal.returns-clause-some
 unfolding dump_mark
 returns-clause-some c =
     let head = c.args.head.now in
-    let mark = (bytes_eq-Decides (take 7 head) dump_mark).0 (not_apart _ (sym c.ne.ensures ∙ c.if-ne.false)) in
+    let mark =
+    (bytes_eq-Decides (take 7 head) dump_mark).0 (not_apart _ (sym c.ne.ensures ∙ c.if-ne.false)) in
     let count = rw (take_rest head 7) at c.read_u64.ensures in
     head_is head c.read_u64.result c.requires (small_bytes head c.type_inv.head) mark count

@@ -8,7 +8,8 @@ unfoldable zeros : List ℕ
 zeros = 0 ∷ 0 ∷ 0 ∷ 0 ∷ 0 ∷ 0 ∷ 0 ∷ 0 ∷ []
 
 -- the mark, and then the count in its place
-put_head : (mark count : List ℕ) (n : ℕ) → mark ≡ dump_mark → count ≡ count_bytes n ++ drop 8 (take 8 (drop 7 (mark ++ zeros)))
+put_head : (mark count : List ℕ) (n : ℕ) → mark ≡ dump_mark
+    → count ≡ count_bytes n ++ drop 8 (take 8 (drop 7 (mark ++ zeros)))
     → put_mid 7 8 (mark ++ zeros) count ≡ dump_head n
 unfolding dump_mark dump_head count_bytes zeros
 put_head mark count n is_mark is_count = rw (is_count, is_mark) refl
@@ -16,4 +17,5 @@ put_head mark count n is_mark is_count = rw (is_count, is_mark) refl
 pub returns : goal.returns
 unfolding dump_mark count_bytes zeros
 returns c =
-    put_head c.copy_from_slice.new.self c.write_u64.new.buf c.args.count c.copy_from_slice.ensures.after c.write_u64.ensures
+    put_head c.copy_from_slice.new.self c.write_u64.new.buf c.args.count
+    c.copy_from_slice.ensures.after c.write_u64.ensures

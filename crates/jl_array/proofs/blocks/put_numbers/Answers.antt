@@ -22,6 +22,10 @@ numbers-preserved c =
     let more = take_more ns i (pos 0) c.numbers-test.true in
     let wrote = rw (to_z-of_z w64 z fits) at c.write_i64.ensures in
     record {
-      bytes = put_number ns i _ z c.numbers.buf c.write_i64.new.buf _ (omega (arith, c.numbers-test.true, c.numbers.auto.buf, c.requires)) wrote c.numbers.invariant.bytes more;
-      signed = subst AreSigned (sym more) (signed_push (take i ns) z c.numbers.invariant.signed fits);
+      bytes =
+          put_number ns i _ z c.numbers.buf c.write_i64.new.buf _
+          (omega (arith, c.numbers-test.true, c.numbers.auto.buf, c.requires)) wrote
+          c.numbers.invariant.bytes more;
+      signed =
+          subst AreSigned (sym more) (signed_push (take i ns) z c.numbers.invariant.signed fits);
     }

@@ -15,7 +15,8 @@ invariant-loop-have g l =
       waits : old.told → Waits old new;
       room : length l.buf ≡ length l.wanted;
       within : l.have ≤ length l.wanted;
-      so_far : old.told → (before : List ℕ) → length before ≡ l.done → OpenHas l.number.0 (HasPart 15 before) old
+      so_far : old.told → (before : List ℕ) → length before ≡ l.done
+          → OpenHas l.number.0 (HasPart 15 before) old
           → OpenHas l.number.0 (HasPart 15 (before ++ take l.have l.wanted)) new;
     }
 

@@ -15,7 +15,8 @@ invariant-loop-have g l =
       waits : old.told → Waits old new;
       within : l.have ≤ length l.numbers;
       signed : AreSigned (take l.have l.numbers);
-      so_far : old.told → OpenHas l.number.0 (HasPart 15 (numbers_bytes (take l.have l.numbers))) new;
+      so_far : old.told
+          → OpenHas l.number.0 (HasPart 15 (numbers_bytes (take l.have l.numbers))) new;
     }
 
 abbrev pub decreases-loop-have : goal.decreases-loop-have

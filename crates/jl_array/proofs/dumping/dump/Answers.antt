@@ -15,8 +15,11 @@ returns-in-All-clause-dumps g c = λ t.
     let new = g.F.Folder.view c.write_file.new.folder in
     let path = c.args.path.now in
     let made = IsMade-new c.in-Made.number.0 old.opens mid.opens c.in-Made.ensures.opens in
-    dump_done path c.args.numbers.now old mid new c.in-Made.number.0 made.0 c.create.ensures.frame.token (g.met.F.Folder.lawful c.args.folder.now t) made.1 (c.in-Made.ensures.call t)
-    (subst (λ ns. Dumping path mid.token (IsWritten mid.token path made.0.node []) (Written mid.token path made.0.node [] (dump_text ns) wrote.All) mid new) c.as_slice.ensures
+    dump_done path c.args.numbers.now old mid new c.in-Made.number.0 made.0
+    c.create.ensures.frame.token (g.met.F.Folder.lawful c.args.folder.now t) made.1
+    (c.in-Made.ensures.call t)
+    (subst (λ ns. Dumping path mid.token (IsWritten mid.token path made.0.node [])
+    (Written mid.token path made.0.node [] (dump_text ns) wrote.All) mid new) c.as_slice.ensures
     (c.in-All.ensures.called (c.create.ensures.frame.told t) made.0 made.1 path []))
 
 -- or a front
@@ -27,8 +30,11 @@ returns-in-Fault-clause-dumps g c = λ t.
     let new = g.F.Folder.view c.write_file.new.folder in
     let path = c.args.path.now in
     let made = IsMade-new c.in-Made.number.0 old.opens mid.opens c.in-Made.ensures.opens in
-    dump_stops path c.args.numbers.now old mid new c.in-Made.number.0 made.0 c.create.ensures.frame.token (g.met.F.Folder.lawful c.args.folder.now t) made.1 (c.in-Made.ensures.call t)
-    (subst (λ ns. Dumping path mid.token (IsWritten mid.token path made.0.node []) (Written mid.token path made.0.node [] (dump_text ns) wrote.Fault) mid new) c.as_slice.ensures
+    dump_stops path c.args.numbers.now old mid new c.in-Made.number.0 made.0
+    c.create.ensures.frame.token (g.met.F.Folder.lawful c.args.folder.now t) made.1
+    (c.in-Made.ensures.call t)
+    (subst (λ ns. Dumping path mid.token (IsWritten mid.token path made.0.node [])
+    (Written mid.token path made.0.node [] (dump_text ns) wrote.Fault) mid new) c.as_slice.ensures
     (c.in-Fault.ensures.called (c.create.ensures.frame.told t) made.0 made.1 path []))
 
 pub returns-in-NoMemory-write_file-clause-dumps : goal.returns-in-NoMemory-write_file-clause-dumps
@@ -38,8 +44,12 @@ returns-in-NoMemory-write_file-clause-dumps g c = λ t.
     let new = g.F.Folder.view c.write_file.new.folder in
     let path = c.args.path.now in
     let made = IsMade-new c.in-Made.number.0 old.opens mid.opens c.in-Made.ensures.opens in
-    dump_stops path c.args.numbers.now old mid new c.in-Made.number.0 made.0 c.create.ensures.frame.token (g.met.F.Folder.lawful c.args.folder.now t) made.1 (c.in-Made.ensures.call t)
-    (subst (λ ns. Dumping path mid.token (IsWritten mid.token path made.0.node []) (Written mid.token path made.0.node [] (dump_text ns) wrote.NoMemory) mid new) c.as_slice.ensures
+    dump_stops path c.args.numbers.now old mid new c.in-Made.number.0 made.0
+    c.create.ensures.frame.token (g.met.F.Folder.lawful c.args.folder.now t) made.1
+    (c.in-Made.ensures.call t)
+    (subst (λ ns. Dumping path mid.token (IsWritten mid.token path made.0.node [])
+    (Written mid.token path made.0.node [] (dump_text ns) wrote.NoMemory) mid new)
+    c.as_slice.ensures
     (c.in-NoMemory-write_file.ensures.called (c.create.ensures.frame.told t) made.0 made.1 path []))
 
 -- the file was made or not
@@ -47,10 +57,14 @@ pub returns-in-Failed-clause-dumps : goal.returns-in-Failed-clause-dumps
 returns-in-Failed-clause-dumps g c = λ t.
     let old = g.F.Folder.view c.args.folder.now in
     let mid = g.F.Folder.view c.create.new.self in
-    made_stops c.args.path.now old mid c.create.ensures.frame.token c.args.numbers.now (g.met.F.Folder.lawful c.args.folder.now t) (retold old mid _ _ (λ s own h. h) (c.in-Failed.ensures.call t))
+    made_stops c.args.path.now old mid c.create.ensures.frame.token c.args.numbers.now
+    (g.met.F.Folder.lawful c.args.folder.now t)
+    (retold old mid _ _ (λ s own h. h) (c.in-Failed.ensures.call t))
 
 pub returns-in-NoMemory-clause-dumps : goal.returns-in-NoMemory-clause-dumps
 returns-in-NoMemory-clause-dumps g c = λ t.
     let old = g.F.Folder.view c.args.folder.now in
     let mid = g.F.Folder.view c.create.new.self in
-    made_stops c.args.path.now old mid c.create.ensures.frame.token c.args.numbers.now (g.met.F.Folder.lawful c.args.folder.now t) (retold old mid _ _ (λ s own h. h) (c.in-NoMemory.ensures.call t))
+    made_stops c.args.path.now old mid c.create.ensures.frame.token c.args.numbers.now
+    (g.met.F.Folder.lawful c.args.folder.now t)
+    (retold old mid _ _ (λ s own h. h) (c.in-NoMemory.ensures.call t))

@@ -14,10 +14,14 @@ returns-in-All-clause-called g c =
     let mid = g.F.Folder.view c.append_bytes.new.folder in
     let new = g.F.Folder.view c.append_numbers.new.folder in
     let ns = c.args.numbers.now in
-    let text : c.head_of-head.result ++ numbers_bytes ns ≡ dump_text ns = ap (λ (l : List ℕ). l ++ numbers_bytes ns) c.head_of-head.ensures in
+    let text : c.head_of-head.result ++ numbers_bytes ns ≡ dump_text ns =
+    ap (λ (l : List ℕ). l ++ numbers_bytes ns) c.head_of-head.ensures in
     subst (λ (l : List ℕ). IsWriting old new c.args.number.0 l c.append_numbers.result) text
-    (writing_then old mid new c.args.number.0 c.head_of-head.result (numbers_bytes ns) c.append_numbers.result
-    (answers_as old mid c.in-All.ensures.frame (λ bad. absurd bad) (λ (failed : wrote.All ≡ wrote.Fault). cc)) c.in-All.ensures.called c.append_numbers.ensures.called)
+    (writing_then old mid new c.args.number.0 c.head_of-head.result
+    (numbers_bytes ns) c.append_numbers.result
+    (answers_as old mid c.in-All.ensures.frame (λ bad. absurd bad)
+    (λ (failed : wrote.All ≡ wrote.Fault). cc)) c.in-All.ensures.called
+    c.append_numbers.ensures.called)
 
 -- a front of the head was
 pub returns-in-Fault-clause-called : goal.returns-in-Fault-clause-called
@@ -26,8 +30,11 @@ returns-in-Fault-clause-called g c =
     let old = g.F.Folder.view c.args.folder.now in
     let mid = g.F.Folder.view c.append_bytes.new.folder in
     let ns = c.args.numbers.now in
-    let text : c.head_of-head.result ++ numbers_bytes ns ≡ dump_text ns = ap (λ (l : List ℕ). l ++ numbers_bytes ns) c.head_of-head.ensures in
-    subst (IsStopped old mid c.args.number.0) text (stopped_longer old mid c.args.number.0 c.head_of-head.result (numbers_bytes ns) c.in-Fault.ensures.called)
+    let text : c.head_of-head.result ++ numbers_bytes ns ≡ dump_text ns =
+    ap (λ (l : List ℕ). l ++ numbers_bytes ns) c.head_of-head.ensures in
+    subst (IsStopped old mid c.args.number.0) text
+    (stopped_longer old mid c.args.number.0 c.head_of-head.result
+    (numbers_bytes ns) c.in-Fault.ensures.called)
 
 pub returns-in-NoMemory-clause-called : goal.returns-in-NoMemory-clause-called
 unfolding dump_text
@@ -35,5 +42,8 @@ returns-in-NoMemory-clause-called g c =
     let old = g.F.Folder.view c.args.folder.now in
     let mid = g.F.Folder.view c.append_bytes.new.folder in
     let ns = c.args.numbers.now in
-    let text : c.head_of-head.result ++ numbers_bytes ns ≡ dump_text ns = ap (λ (l : List ℕ). l ++ numbers_bytes ns) c.head_of-head.ensures in
-    subst (IsStopped old mid c.args.number.0) text (stopped_longer old mid c.args.number.0 c.head_of-head.result (numbers_bytes ns) c.in-NoMemory.ensures.called)
+    let text : c.head_of-head.result ++ numbers_bytes ns ≡ dump_text ns =
+    ap (λ (l : List ℕ). l ++ numbers_bytes ns) c.head_of-head.ensures in
+    subst (IsStopped old mid c.args.number.0) text
+    (stopped_longer old mid c.args.number.0 c.head_of-head.result
+    (numbers_bytes ns) c.in-NoMemory.ensures.called)

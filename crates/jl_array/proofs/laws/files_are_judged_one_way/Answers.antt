@@ -1,4 +1,5 @@
-use Rattle.jl_array.proofs.LawLemmas.{dump_not_cut, dump_not_none, cut_not_none, text_dump, dump_list}
+use Rattle.jl_array.proofs.LawLemmas.{dump_not_cut, dump_not_none, cut_not_none, text_dump}
+use Rattle.jl_array.proofs.LawLemmas.{dump_list}
 use Rattle.jl_array.proofs.laws.files_are_judged_one_way.Goals as goal
 
 -- a file is one thing

@@ -9,7 +9,8 @@ use Rattle.jl_array.proofs.opening.open_array.Goals as goal
 pub returns-in-Ok-clause-waits : goal.returns-in-Ok-clause-waits
 returns-in-Ok-clause-waits g c = λ t.
     let call = c.in-Opened.ensures.call t in
-    waits_trans _ _ _ c.open_file.ensures.frame.token (call_waits _ _ _ call call.answer.move_is) (c.judge.ensures.waits (c.open_file.ensures.frame.told t))
+    waits_trans _ _ _ c.open_file.ensures.frame.token (call_waits _ _ _ call call.answer.move_is)
+    (c.judge.ensures.waits (c.open_file.ensures.frame.told t))
 
 pub returns-in-Err-clause-waits : goal.returns-in-Err-clause-waits
 returns-in-Err-clause-waits g c = λ t.
@@ -21,14 +22,18 @@ returns-in-Err-clause-waits g c = λ t.
     let call = c.in-Opened.ensures.call t in
     let close = c.close.ensures.call (c.judge.ensures.frame.told told₁) in
     waits_trans a b₂ b₃ (c.judge.ensures.frame.token ∙ c.open_file.ensures.frame.token)
-    (waits_trans a b₁ b₂ c.open_file.ensures.frame.token (call_waits a b₁ _ call call.answer.move_is) (c.judge.ensures.waits told₁)) (call_waits b₂ b₃ NoMove close close.answer)
+    (waits_trans a b₁ b₂ c.open_file.ensures.frame.token
+    (call_waits a b₁ _ call call.answer.move_is) (c.judge.ensures.waits told₁))
+    (call_waits b₂ b₃ NoMove close close.answer)
 
 -- an array is open on the node that was opened
 pub returns-in-Ok-clause-array : goal.returns-in-Ok-clause-array
 returns-in-Ok-clause-array g c = λ t.
     let told = c.open_file.ensures.frame.told t in
-    opened_dump (g.F.Folder.view c.args.folder.now) (g.F.Folder.view c.open_file.new.self) (g.F.Folder.view c.judge.new.folder) c.args.path.now c.in-Opened.no.0
-    (c.in-Opened.ensures.call t) (c.judge.ensures.waits told) c.judge.ensures.frame.opens (record { no = c.in-Opened.no; count = c.in-Ok.count }) refl (c.in-Ok.ensures.judges told)
+    opened_dump (g.F.Folder.view c.args.folder.now) (g.F.Folder.view c.open_file.new.self)
+    (g.F.Folder.view c.judge.new.folder) c.args.path.now c.in-Opened.no.0
+    (c.in-Opened.ensures.call t) (c.judge.ensures.waits told) c.judge.ensures.frame.opens
+    (record { no = c.in-Opened.no; count = c.in-Ok.count }) refl (c.in-Ok.ensures.judges told)
 
 -- what is none was closed
 pub returns-in-Err-clause-array : goal.returns-in-Err-clause-array
@@ -40,4 +45,6 @@ returns-in-Err-clause-array g c = λ t.
     let told = c.open_file.ensures.frame.told t in
     let close = c.close.ensures.call (c.judge.ensures.frame.told told) in
     subst (λ r. OpensArray c.args.path.now r a b₃) (sym c.answer.ensures)
-    (refused_array a b₁ b₂ b₃ c.args.path.now c.in-Opened.no.0 (c.in-Opened.ensures.call t) (c.judge.ensures.waits told) c.judge.ensures.frame.opens (call_waits b₂ b₃ NoMove close close.answer) c.in-Err.why (c.in-Err.ensures.judges told))
+    (refused_array a b₁ b₂ b₃ c.args.path.now c.in-Opened.no.0 (c.in-Opened.ensures.call t)
+    (c.judge.ensures.waits told) c.judge.ensures.frame.opens
+    (call_waits b₂ b₃ NoMove close close.answer) c.in-Err.why (c.in-Err.ensures.judges told))

@@ -1,4 +1,5 @@
-use Rattle.std.proofs.Common.{◌-◌, ◌+◌, ◌*◌, [], length, refl, subst, sym, arith, length-take, take, take_all}
+use Rattle.std.proofs.Common.{◌-◌, ◌+◌, ◌*◌, [], length, refl, subst, sym, arith, length-take, take}
+use Rattle.std.proofs.Common.{take_all}
 use Rattle.std.proofs.lemmas.Slice.{take-put_mid}
 use Rattle.jl_folder.proofs.Frames.{answers_none, answers_next}
 use Rattle.jl_folder.proofs.ReadingLemmas.{waits_none, waits_trans}
@@ -19,29 +20,43 @@ loop-have-init g c =
       within = omega arith;
       signed = signed_none;
       so_far = λ t.
-          has_node old c.args.number.0 (HasPart c.args.at (numbers_bytes [])) (g.met.F.Folder.lawful c.args.folder.now t) c.requires.is_open
-          (λ bytes. subst (λ l. HasPart c.args.at l bytes) (sym numbers_none) (part_none c.args.at bytes));
+          has_node old c.args.number.0 (HasPart c.args.at (numbers_bytes []))
+          (g.met.F.Folder.lawful c.args.folder.now t) c.requires.is_open
+          (λ bytes. subst (λ l. HasPart c.args.at l bytes) (sym numbers_none)
+          (part_none c.args.at bytes));
     }
 
 -- a read makes no move
 pub returns-in-Short-clause-waits : goal.returns-in-Short-clause-waits
 returns-in-Short-clause-waits g c = λ t.
-    waits_trans _ _ _ c.loop-have.invariant.frame.token (c.loop-have.invariant.waits t) (c.fill.ensures.waits (c.loop-have.invariant.frame.told t))
+    waits_trans _ _ _ c.loop-have.invariant.frame.token (c.loop-have.invariant.waits t)
+    (c.fill.ensures.waits (c.loop-have.invariant.frame.told t))
 
 pub returns-in-Fault-clause-waits : goal.returns-in-Fault-clause-waits
 returns-in-Fault-clause-waits g c = λ t.
-    waits_trans _ _ _ c.loop-have.invariant.frame.token (c.loop-have.invariant.waits t) (c.fill.ensures.waits (c.loop-have.invariant.frame.told t))
+    waits_trans _ _ _ c.loop-have.invariant.frame.token (c.loop-have.invariant.waits t)
+    (c.fill.ensures.waits (c.loop-have.invariant.frame.told t))
 
 -- the file ends in this block
 pub returns-in-Short-clause-fills : goal.returns-in-Short-clause-fills
 returns-in-Short-clause-fills g c = λ t.
-    block_short (g.F.Folder.view c.fill.new.folder) c.args.number.0 c.args.at (c.args.at + 8 * c.loop-have.have) (length c.fill.new.buf) c.loop-have.out
-    (omega (arith, c.fill.auto.buf, length-take (8 * (c.min-end.result - c.loop-have.have)) c.loop-have.buf, c.min-end.ensures, c.loop-have-test.true))
+    block_short (g.F.Folder.view c.fill.new.folder) c.args.number.0 c.args.at
+    (c.args.at + 8 * c.loop-have.have) (length c.fill.new.buf) c.loop-have.out
+    (omega (
+      arith,
+      c.fill.auto.buf,
+      length-take
+          (8 * (c.min-end.result - c.loop-have.have)) c.loop-have.buf,
+      c.min-end.ensures,
+      c.loop-have-test.true,
+    ))
     (c.in-Short.ensures.fills (c.loop-have.invariant.frame.told t))
 
 -- all were read
 pub returns-clause-signed : goal.returns-clause-signed
-returns-clause-signed g c = λ whole. subst AreSigned (take_all c.loop-have.have c.loop-have.out c.loop-have-test.false) c.loop-have.invariant.signed
+returns-clause-signed g c =
+    λ whole. subst AreSigned (take_all c.loop-have.have c.loop-have.out c.loop-have-test.false)
+    c.loop-have.invariant.signed
 
 -- a block more was read
 pub loop-have-preserved : goal.loop-have-preserved
@@ -50,16 +65,33 @@ loop-have-preserved g c =
     let old = view c.args.folder.now in
     let mid = view c.loop-have.folder in
     let new = view c.fill.new.folder in
-    let size = mid_size c.loop-have.have (c.min-end.result - c.loop-have.have) c.loop-have.out c.take_numbers.new.out (omega (arith, c.min-end.ensures, c.loop-have-test.true)) c.take_numbers.auto.out in
+    let size =
+    mid_size c.loop-have.have (c.min-end.result - c.loop-have.have) c.loop-have.out
+    c.take_numbers.new.out (omega (arith, c.min-end.ensures, c.loop-have-test.true))
+    c.take_numbers.auto.out in
     record {
-      frame = answers_next old mid new c.loop-have.invariant.frame (λ bad. bad) c.in-Whole.ensures.frame (λ bad. absurd bad) (λ failed. cc);
-      waits = λ t. waits_trans _ _ _ c.loop-have.invariant.frame.token (c.loop-have.invariant.waits t) (c.fill.ensures.waits (c.loop-have.invariant.frame.told t));
+      frame =
+          answers_next old mid new c.loop-have.invariant.frame (λ bad. bad) c.in-Whole.ensures.frame
+          (λ bad. absurd bad) (λ failed. cc);
+      waits =
+          λ t. waits_trans _ _ _ c.loop-have.invariant.frame.token (c.loop-have.invariant.waits t)
+          (c.fill.ensures.waits (c.loop-have.invariant.frame.told t));
       within = omega (arith, c.min-end.ensures, size.1);
       signed =
-          subst AreSigned (sym (take-put_mid c.loop-have.have (c.min-end.result - c.loop-have.have) c.loop-have.out c.take_numbers.new.out c.min-end.result (omega (arith, c.min-end.ensures, c.loop-have-test.true, size.0)) c.loop-have.invariant.within))
-          (signed_append (take c.loop-have.have c.loop-have.out) c.take_numbers.new.out c.loop-have.invariant.signed c.take_numbers.ensures.signed);
+          subst AreSigned (sym (take-put_mid c.loop-have.have
+          (c.min-end.result - c.loop-have.have) c.loop-have.out c.take_numbers.new.out
+          c.min-end.result (omega (arith, c.min-end.ensures, c.loop-have-test.true, size.0))
+          c.loop-have.invariant.within))
+          (signed_append (take c.loop-have.have c.loop-have.out) c.take_numbers.new.out
+          c.loop-have.invariant.signed c.take_numbers.ensures.signed);
       so_far = λ t.
           let told = c.loop-have.invariant.frame.told t in
-          block_more mid new c.args.number.0 c.args.at c.loop-have.have (c.min-end.result - c.loop-have.have) c.min-end.result c.loop-have.out c.take_numbers.new.out c.fill.new.buf
-          c.in-Whole.ensures.frame.opens (c.in-Whole.ensures.waits told) c.loop-have.invariant.within (omega (arith, c.min-end.ensures, c.loop-have-test.true, size.0)) c.take_numbers.ensures.bytes (c.loop-have.invariant.so_far t) (c.in-Whole.ensures.fills told);
+          block_more mid new c.args.number.0 c.args.at c.loop-have.have
+          (c.min-end.result - c.loop-have.have) c.min-end.result c.loop-have.out
+          c.take_numbers.new.out c.fill.new.buf
+          c.in-Whole.ensures.frame.opens
+          (c.in-Whole.ensures.waits told) c.loop-have.invariant.within
+          (omega (arith, c.min-end.ensures, c.loop-have-test.true, size.0))
+          c.take_numbers.ensures.bytes (c.loop-have.invariant.so_far t)
+          (c.in-Whole.ensures.fills told);
     }
