@@ -19,6 +19,8 @@ use Rattle.jl_array.specs.declared.appending.Wrote.{Wrote}
 use Rattle.jl_array.specs.declared.appending.Wrote.TheVariants as wrote
 use Rattle.jl_array.specs.Dumping.{IsOfDump, WritesNamed, Spares, Dumping, IsWritten}
 use Rattle.jl_array.specs.Dumping.{IsFrontWritten, Written}
+use Rattle.jl_array.specs.Dumping.{Holding}
+use Rattle.jl_array.proofs.HeldLemmas.{holding_none, holding_then, holding_append}
 use Rattle.jl_array.proofs.Spared.{written_stable, appends_written, append_named, kind_append}
 
 -- ---- claims
@@ -272,11 +274,17 @@ pub record IsAppended (old here : FolderView) (number : ℕ) (bytes : List ℕ) 
   pub frame : FolderAnswers (⊥) old here
   pub within : at ≤ length bytes
   pub added : IsAdded old here number (take at bytes)
+  pub held : Holding old here number
 
 pub appended_start : (old : FolderView) (number : ℕ) (bytes : List ℕ)
     → IsAppended old old number bytes 0
 appended_start old number bytes =
-    record { frame = answers_none old; within = omega arith; added = added_none old number }
+    record {
+      frame = answers_none old;
+      within = omega arith;
+      added = added_none old number;
+      held = holding_none old number;
+    }
 
 module _ (old here next : FolderView) (number : ℕ) (bytes : List ℕ) (at m : ℕ) (few : m ≤ 65536)
     (so_far : IsAppended old here number bytes at) where
@@ -299,7 +307,17 @@ module _ (old here next : FolderView) (number : ℕ) (bytes : List ℕ) (at m : 
         (take_piece bytes at m k small)
         (added_then old here next number (take at bytes) (take k piece) so_far.frame so_far.added
         (call_added here next number k piece frame.token piece_short call));
+    held =
+        holding_then old here next number so_far.frame so_far.held
+        (holding_append here next number piece (appended.Wrote k) frame.token piece_short call);
   }
+
+  pub appended_held : (r : Appended) → next.token ≡ here.token
+      → (here.told → Call here next (AppendsBytes number piece here.opens r))
+      → Holding old next number
+  appended_held r same call =
+      holding_then old here next number so_far.frame so_far.held
+      (holding_append here next number piece r same piece_short call)
 
   pub appended_stops : (r : Appended) → next.token ≡ here.token
       → (here.told → Call here next (AppendsBytes number piece here.opens r))

@@ -52,7 +52,7 @@ ends_here front whole file has short more same =
     let body : drop 15 file ≡ front =
     sym (take_all n (drop 15 file) (omega (arith, short, length-drop 15 file))) ∙ has in
     record {
-      ends = omega (arith, short, more);
+      ends = omega (arith, short, more, length-drop 15 file);
       front = ap (λ (l : List ℕ). take (length l) whole) body ∙ same ∙ sym body;
     }
 
@@ -191,7 +191,7 @@ pub ends_longer : (part more file : List ℕ) → EndsInside part file → EndsI
 ends_longer part more file d = record {
   ends = omega (arith, d.ends, length-append part more);
   front =
-      take-append-le (length (drop 15 file)) part more (omega (arith, d.ends, length-drop 15 file))
+      take-append-le (length (drop 15 file)) part more (omega (arith, d.ends))
       ∙ d.front;
 }
 
@@ -250,6 +250,29 @@ compares_list number list numbers same_array.Short v fl same fn text d =
     let both =
     has_both v number (HasPart 0 (dump_text list)) (EndsInside (numbers_bytes numbers)) text d in
     let long = part_within 0 (dump_text list) both.node.bytes both.has.0 in
-    let few : length both.node.bytes < 15 + length (numbers_bytes numbers) = both.has.1.ends in
-    omega (arith, few, long, same, numbers_size numbers, text_size list)
+    let few : length (drop 15 both.node.bytes) < length (numbers_bytes numbers) =
+    both.has.1.ends in
+    let behind = length-drop 15 both.node.bytes in
+    omega (arith, few, behind, long, same, numbers_size numbers, text_size list)
 compares_list number list numbers same_array.FolderFault v fl same fn text d = tt
+
+-- ---- one answer
+
+-- a file that has bytes has no others
+pub has_not_other : (part file : List ℕ) → HasPart 15 part file → DiffersFrom part file → ⊥
+has_not_other part file has d =
+    d.differ
+    (sym (take-take d.size (length part) (drop 15 file) d.of_part) ∙ ap (take d.size) has)
+
+-- nor does it end before them
+pub has_not_short : (part file : List ℕ) → HasPart 15 part file → EndsInside part file → ⊥
+has_not_short part file has d =
+    omega (arith, part_within 15 part file has, d.ends, length-drop 15 file)
+
+-- and one that ends inside them has no others
+pub other_not_short : (part file : List ℕ) → DiffersFrom part file → EndsInside part file → ⊥
+other_not_short part file d e =
+    let body = drop 15 file in
+    let within : d.size ≤ length body = omega (arith, d.of_file, length-drop 15 file) in
+    d.differ
+    (ap (take d.size) (sym e.front) ∙ take-take d.size (length body) part within)

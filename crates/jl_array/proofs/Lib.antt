@@ -2,6 +2,7 @@ pub mod AppendLemmas
 pub mod CompareLemmas
 pub mod DumpLemmas
 pub mod FillLemmas
+pub mod HeldLemmas
 pub mod JudgeLemmas
 pub mod LawLemmas
 pub mod NodeFacts

@@ -2,6 +2,8 @@
 use Rattle.std.proofs.Common.{◌≡◌, ◌≢◌, ◌⊎◌, ◌≤◌, inl, inr, ⊎_elim, ℕ, List, length, [], ◌++◌, Bool}
 use Rattle.std.proofs.Common.{true, false, cond, Option, None, Some, is_some, true≢false, refl, sym}
 use Rattle.std.proofs.Common.{ap, ◌∙◌}
+use Rattle.std.proofs.Common.{nat_eq}
+use Rattle.std.proofs.lemmas.Bool.Decides.{Decides-eqb}
 use Rattle.std.specs.Option.{option_map_or}
 use Rattle.jl_text.specs.Paths.{PathView, path_eq}
 use Rattle.jl_folder.specs.declared.moves.Place.{Place}
@@ -25,7 +27,7 @@ use Rattle.jl_array.specs.Dumping.{IsOfDump, WritesNamed, AppendsTo, Spares, IsW
 -- ---- what a path names
 
 -- a file's number
-file_of : (o : Option Place) → option_map_or is_file_place o false ≡ true
+pub file_of : (o : Option Place) → option_map_or is_file_place o false ≡ true
     → (n : ℕ) × (o ≡ Some (File n))
 file_of None h = absurd (true≢false (sym h))
 file_of (Some x) h =
@@ -39,6 +41,13 @@ one_number o m n e f = let h : Some (File m) ≡ Some (File n) = sym e ∙ f in 
 there_not_new : (o : Option Node) (v : Node) → o ≡ Some v → o ≡ None → ⊥
 there_not_new o v e f = true≢false (sym (ap is_some e) ∙ ap is_some f)
 
+-- two numbers are equal or not
+pub same_number : (m n : ℕ) → (m ≡ n) ⊎ (m ≢ n)
+same_number m n = elim (nat_eq m n) as (λ b. nat_eq m n ≡ b → (m ≡ n) ⊎ (m ≢ n)) [
+  | true ↦ λ e. inl ((Decides-eqb m n).0 e)
+  | false ↦ λ e. inr (λ same. true≢false (sym ((Decides-eqb m n).1 same) ∙ e))
+] refl
+
 -- by whether two paths are equal
 by_path : (x p : PathView) (P : Bool → Type 0) → (x ≡ p → P true) → (x ≢ p → P false)
     → P (path_eq x p)
@@ -48,7 +57,7 @@ by_path x p P equal apart = elim (path_eq x p) as (λ b. path_eq x p ≡ b → P
 ] refl
 
 -- the step gave x the file k: it made it, or another path named it
-abbrev Gives : State → Event → PathView → ℕ → Type 0
+abbrev pub Gives : State → Event → PathView → ℕ → Type 0
 Gives s (t, MakeDir p) x k = ⊥
 Gives s (t, Create p m) x k = (x ≡ p) × (k ≡ m)
 Gives s (t, Append m bytes) x k = ⊥
@@ -77,7 +86,8 @@ renamed_from s t p q x k (Some place) is e =
     ] is e
 
 -- a file that a path names after a step it named before, or the step gave it
-named_or_given : (s : State) (e : Event) (x : PathView) (k : ℕ) → place_after s e x ≡ Some (File k)
+pub named_or_given : (s : State) (e : Event) (x : PathView) (k : ℕ)
+    → place_after s e x ≡ Some (File k)
     → (place_at s x ≡ Some (File k)) ⊎ Gives s e x k
 named_or_given s (t, MakeDir p) x k e =
     by_path x p (λ b. cond b (Some Folder) (place_at s x) ≡ Some (File k)
@@ -161,14 +171,15 @@ module _ (token : List ℕ) (path : PathView) (n : ℕ) (bytes : List ℕ) where
   pub append_named : (s : State) (more : List ℕ) → IsWritten token path n bytes s
       → WritesNamed path token s (Append n more)
   unfolding WritesNamed
-  append_named s more own =
-      record {
-        named = own.named;
-        view = record { bytes = bytes; maker = token; frozen = false };
-        node = own.node;
-        maker = refl;
-        unfrozen = refl;
-      }
+  append_named s more own = record {
+    named = own.named;
+    own = record {
+      view = record { bytes = bytes; maker = token; frozen = false };
+      node = own.node;
+      maker = refl;
+      unfrozen = refl;
+    };
+  }
 
 pub creates_written : (token : List ℕ) (path : PathView) (n : ℕ) (s : State) → IsState s
     → node_at s n ≡ None → IsWritten token path n [] (after s (token, Create path n))

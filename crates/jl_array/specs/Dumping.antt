@@ -5,6 +5,7 @@ use Rattle.jl_text.specs.Paths.{PathView}
 use Rattle.jl_text.specs.declared.limits.TheConstants.{PIECE_BYTES}
 use Rattle.jl_folder.specs.declared.moves.Place.TheVariants.{File}
 use Rattle.jl_folder.specs.declared.moves.Node.{Node}
+use Rattle.jl_folder.specs.declared.moves.OpenFile.{OpenFile}
 use Rattle.jl_folder.specs.declared.moves.Move.{Move}
 use Rattle.jl_folder.specs.declared.moves.Move.TheVariants.{MakeDir, Create, Append}
 use Rattle.jl_folder.specs.declared.moves.Move.TheVariants.{Rename, Remove, RemoveDir}
@@ -31,13 +32,17 @@ IsOfDump path (Rename p q) = ⊥
 IsOfDump path (Remove p) = ⊥
 IsOfDump path (RemoveDir p) = ⊥
 
--- the path names this node, which this run made and which isn't frozen
-pub record NamesOwn (path : PathView) (token : List ℕ) (n : ℕ) (s : State) : Type 0 where
-  pub named : place_at s path ≡ Some (File n)
+-- this run made the node, and it isn't frozen
+pub record IsOwnNode (token : List ℕ) (n : ℕ) (s : State) : Type 0 where
   pub view : Node
   pub node : node_at s n ≡ Some view
   pub maker : view.maker ≡ token
   pub unfrozen : view.frozen ≡ false
+
+-- the path names such a node
+pub record NamesOwn (path : PathView) (token : List ℕ) (n : ℕ) (s : State) : Type 0 where
+  pub named : place_at s path ≡ Some (File n)
+  pub own : IsOwnNode token n s
 
 -- makes the file of this name, or appends to the own unfrozen file that it names
 unfoldable pub WritesNamed : PathView → StepFact
@@ -62,13 +67,58 @@ abbrev pub Spares : PathView → List ℕ → StepFact
 Spares path mine token s m = token ≢ mine → (Touches m path → ⊥) × (AppendsTo path s m → ⊥)
 
 -- Own moves make this file or append pieces, whatever others do.
--- Begun where Pre held, each is on the own unfrozen file that the path names, wherever others spared
+-- Begun where Pre held, each is on the own unfrozen file that the path names, wherever others
+-- spared
 -- it before;
 -- and where all of them spare it, the call ends where Post holds.
 abbrev pub Dumping : PathView → List ℕ → (Pre Post : State → Type 0) → (old new : FolderView)
     → Type 0
 Dumping path mine Pre Post old new =
     Called (Spares path mine) (WritesNamed path) (IsOfDump path) Pre Post old new
+
+-- ---- a file that others may take away
+
+-- makes the file of this name, or appends to an own unfrozen file
+unfoldable pub WritesOwn : PathView → StepFact
+WritesOwn path token s (MakeDir p) = ⊥
+WritesOwn path token s (Create p n) = p ≡ path
+WritesOwn path token s (Append n bytes) = IsOwnNode token n s
+WritesOwn path token s (Rename p q) = ⊥
+WritesOwn path token s (Remove p) = ⊥
+WritesOwn path token s (RemoveDir p) = ⊥
+
+-- gives the file of this name another one
+unfoldable pub IsRenamedFrom : PathView → Move → Type 0
+IsRenamedFrom path (MakeDir p) = ⊥
+IsRenamedFrom path (Create p n) = ⊥
+IsRenamedFrom path (Append n bytes) = ⊥
+IsRenamedFrom path (Rename p q) = p ≡ path
+IsRenamedFrom path (Remove p) = ⊥
+IsRenamedFrom path (RemoveDir p) = ⊥
+
+-- a move of another run doesn't give the file of this name another one
+abbrev pub KeepsName : PathView → List ℕ → StepFact
+KeepsName path mine token s m = token ≢ mine → IsRenamedFrom path m → ⊥
+
+-- Own moves make this file or append pieces, whatever others do. Begun where Pre held, each append
+-- is to an own unfrozen file, wherever others gave this one no other name before; and where none
+-- does, the call ends where Post holds.
+abbrev pub Filling : PathView → List ℕ → (Pre Post : State → Type 0) → (old new : FolderView)
+    → Type 0
+Filling path mine Pre Post old new =
+    Called (KeepsName path mine) (WritesOwn path) (IsOfDump path) Pre Post old new
+
+-- this run's unfrozen node, which no path but this one names
+pub record IsHeld (token : List ℕ) (path : PathView) (n : ℕ) (s : State) : Type 0 where
+  pub own : IsOwnNode token n s
+  pub only : (p : PathView) → place_at s p ≡ Some (File n) → p ≡ path
+
+-- a call that writes to an open file of this run, whose one name is this path
+abbrev pub Holding : (old new : FolderView) (number : ℕ) → Type 0
+Holding old new number =
+    old.told → (file : OpenFile) → old.opens number ≡ Some file → (path : PathView)
+    → Filling path old.token (IsHeld old.token path file.node) (IsHeld old.token path file.node)
+    old new
 
 -- ---- what is written
 

@@ -86,7 +86,7 @@ pub record DiffersFrom (part file : List ℕ) : Type 0 where
   pub of_file : 15 + size ≤ length file
   pub differ : take size (drop 15 file) ≢ take size part
 
--- the file ends before these bytes do, and what it has behind its head is their front
+-- the file has fewer bytes behind its head than these, and they are their front
 pub record EndsInside (part file : List ℕ) : Type 0 where
-  pub ends : length file < 15 + length part
+  pub ends : length (drop 15 file) < length part
   pub front : HasPart 0 (drop 15 file) part

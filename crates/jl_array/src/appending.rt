@@ -6,7 +6,7 @@ ghost use Rattle.jl_folder.specs.Views.{FolderAnswers};
 ghost use Rattle.jl_folder.specs.Calls.{IsMade};
 ghost use Rattle.jl_folder.specs.declared.moves.OpenFile.{OpenFile};
 ghost use Rattle.jl_array.specs.Dumps.{numbers_bytes};
-ghost use Rattle.jl_array.specs.Dumping.{Dumping, IsWritten, Written};
+ghost use Rattle.jl_array.specs.Dumping.{Dumping, Holding, IsWritten, Written};
 
 use crate::blocks::{BLOCK_NUMBERS, put_numbers};
 use jl_folder::{Appended, FileNo, Folder};
@@ -29,6 +29,7 @@ pub(crate) fn append_bytes<F: Folder>(folder: &mut F, number: FileNo, bytes: &[u
         (IsWritten (F.view folder.old).token path file.node start)
         (Written (F.view folder.old).token path file.node start bytes.now result)
         (F.view folder.old) (F.view folder.new) }
+    ensures holds { Holding (F.view folder.old) (F.view folder.new) number.0 }
     ensures frame { FolderAnswers (result ≡ Wrote.Fault) (F.view folder.old) (F.view folder.new) }
 {
     let mut at = 0;
@@ -58,6 +59,7 @@ pub(crate) fn append_numbers<F: Folder>(
         (IsWritten (F.view folder.old).token path file.node start)
         (Written (F.view folder.old).token path file.node start (numbers_bytes numbers.now) result)
         (F.view folder.old) (F.view folder.new) }
+    ensures holds { Holding (F.view folder.old) (F.view folder.new) number.0 }
     ensures frame { FolderAnswers (result ≡ Wrote.Fault) (F.view folder.old) (F.view folder.new) }
 {
     let mut have = 0;

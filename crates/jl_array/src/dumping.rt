@@ -6,7 +6,8 @@ ghost use Rattle.jl_folder.specs.Views.{FolderAnswers, FolderTurns};
 ghost use Rattle.jl_folder.specs.Calls.{IsMade};
 ghost use Rattle.jl_folder.specs.declared.moves.OpenFile.{OpenFile};
 ghost use Rattle.jl_array.specs.Dumps.{dump_text};
-ghost use Rattle.jl_array.specs.Dumping.{Dumping, IsWritten, Written, Dumps};
+ghost use Rattle.jl_array.specs.Dumping.{Dumping, Filling, Holding, IsWritten, Written, Dumps};
+ghost use Rattle.jl_rely.specs.Claims.{Anywhere};
 
 use crate::appending::{Wrote, append_bytes, append_numbers};
 use crate::blocks::{head_of, new_block};
@@ -32,6 +33,7 @@ fn write_text<F: Folder>(folder: &mut F, number: FileNo, numbers: &[i64]) -> Wro
         (IsWritten (F.view folder.old).token path file.node start)
         (Written (F.view folder.old).token path file.node start (dump_text numbers.now) result)
         (F.view folder.old) (F.view folder.new) }
+    ensures holds { Holding (F.view folder.old) (F.view folder.new) number.0 }
     ensures frame { FolderAnswers (result ≡ Wrote.Fault) (F.view folder.old) (F.view folder.new) }
 {
     let head = head_of(numbers.len() as u64);
@@ -54,6 +56,7 @@ fn write_file<F: Folder>(folder: &mut F, number: FileNo, numbers: &[i64]) -> Wro
         (IsWritten (F.view folder.old).token path file.node start)
         (Written (F.view folder.old).token path file.node start (dump_text numbers.now) result)
         (F.view folder.old) (F.view folder.new) }
+    ensures holds { Holding (F.view folder.old) (F.view folder.new) number.0 }
     ensures opens { (F.view folder.new).opens ≡ closed (F.view folder.old).opens number.0 }
     ensures frame { FolderTurns (result ≡ Wrote.Fault) (F.view folder.old) (F.view folder.new) }
 {
@@ -67,6 +70,9 @@ fn write_file<F: Folder>(folder: &mut F, number: FileNo, numbers: &[i64]) -> Wro
 pub fn dump<F: Folder>(folder: &mut F, path: &Path, numbers: &Numbers) -> Dumped
     ensures dumps { (F.view folder.old).told
         → Dumps path.now numbers.now result (F.view folder.old) (F.view folder.new) }
+    ensures owned { (F.view folder.old).told
+        → Filling path.now (F.view folder.old).token Anywhere Anywhere (F.view folder.old)
+        (F.view folder.new) }
     ensures frame { FolderAnswers (result ≡ Dumped.FolderFault) (F.view folder.old)
         (F.view folder.new) }
 {

@@ -2,6 +2,7 @@
 ghost use Rattle.std.specs.Prelude.{◌≡◌, ◌<◌, ◌^◌, ℕ, ℤ, List, [], ◌++◌, length, All};
 ghost use Rattle.jl_array.specs.Dumps.{dump_text, dump_length, AreSigned};
 ghost use Rattle.jl_array.specs.Dumps.{IsCutOff, IsNoDump, IsDump, HoldsList};
+ghost use Rattle.jl_array.specs.Dumps.{HasPart, DiffersFrom, EndsInside};
 
 /// Two lists have two texts, of 15 bytes and 8 for each number. No text is a proper front of
 /// another.
@@ -22,4 +23,12 @@ pub fn files_are_judged_one_way()
     ensures text { (xs : List ℤ) → length xs < 2 ^ 64 → IsDump (length xs) (dump_text xs) }
     ensures list { (count : ℕ) (file : List ℕ) → All (λ b. b < 256) file → IsDump count file
         → HoldsList count file }
+{}
+
+/// Behind its head a file has some bytes, or other ones in their place, or ends before them, and
+/// never two of these.
+pub fn comparisons_have_one_answer()
+    ensures not_other { (part file : List ℕ) → HasPart 15 part file → DiffersFrom part file → ⊥ }
+    ensures not_short { (part file : List ℕ) → HasPart 15 part file → EndsInside part file → ⊥ }
+    ensures not_both { (part file : List ℕ) → DiffersFrom part file → EndsInside part file → ⊥ }
 {}

@@ -13,6 +13,6 @@ mod ranging;
 
 pub use comparing::{SameArray, same};
 pub use dumping::{Dumped, dump};
-pub use laws::{dumps_are_told_apart, files_are_judged_one_way};
+pub use laws::{comparisons_have_one_answer, dumps_are_told_apart, files_are_judged_one_way};
 pub use opening::{ArrayFile, ArrayOpened, close_array, open_array};
 pub use ranging::{Ranged, range};

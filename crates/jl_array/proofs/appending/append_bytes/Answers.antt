@@ -1,6 +1,7 @@
 use Rattle.std.proofs.Common.{◌-◌, arith, subst, sym}
 use Rattle.jl_folder.specs.Calls.{IsMade}
 use Rattle.jl_array.proofs.AppendLemmas.{appended_start, appended_on, appended_stops, appended_all}
+use Rattle.jl_array.proofs.AppendLemmas.{appended_held}
 use Rattle.jl_array.proofs.appending.append_bytes.Goals as goal
 
 -- nothing was appended
@@ -43,3 +44,21 @@ returns-clause-called g c =
     appended_all (g.F.Folder.view c.args.folder.now)
     (g.F.Folder.view c.loop-at.folder) c.args.number.0 c.args.bytes.now c.loop-at.at
     c.loop-at-test.false c.loop-at.invariant
+
+-- whatever it answers, the file stays held
+pub returns-in-Failed-clause-holds : goal.returns-in-Failed-clause-holds
+returns-in-Failed-clause-holds g c =
+    appended_held (g.F.Folder.view c.args.folder.now) (g.F.Folder.view c.loop-at.folder)
+    (g.F.Folder.view c.append.new.self) c.args.number.0 c.args.bytes.now c.loop-at.at
+    (c.min-end.result - c.loop-at.at) (omega (arith, c.min-end.ensures)) c.loop-at.invariant
+    c.append.result c.append.ensures.frame.token c.append.ensures.call
+
+pub returns-in-NoMemory-clause-holds : goal.returns-in-NoMemory-clause-holds
+returns-in-NoMemory-clause-holds g c =
+    appended_held (g.F.Folder.view c.args.folder.now) (g.F.Folder.view c.loop-at.folder)
+    (g.F.Folder.view c.append.new.self) c.args.number.0 c.args.bytes.now c.loop-at.at
+    (c.min-end.result - c.loop-at.at) (omega (arith, c.min-end.ensures)) c.loop-at.invariant
+    c.append.result c.append.ensures.frame.token c.append.ensures.call
+
+pub returns-clause-holds : goal.returns-clause-holds
+returns-clause-holds g c = c.loop-at.invariant.held

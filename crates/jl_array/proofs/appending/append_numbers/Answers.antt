@@ -6,6 +6,7 @@ use Rattle.jl_array.specs.Dumps.{numbers_bytes}
 use Rattle.jl_array.proofs.Numerals.{numbers_none}
 use Rattle.jl_array.proofs.AppendLemmas.{IsStopped, added_none, added_as, added_then, added_stops}
 use Rattle.jl_array.proofs.AppendLemmas.{stopped_longer}
+use Rattle.jl_array.proofs.HeldLemmas.{holding_none, holding_then}
 use Rattle.jl_array.proofs.DumpLemmas.{numbers_next, numbers_rest}
 use Rattle.jl_array.proofs.appending.append_numbers.Goals as goal
 
@@ -19,6 +20,7 @@ loop-have-init g c =
       added =
           added_as old old c.args.number.0 [] (numbers_bytes []) (sym numbers_none)
           (added_none old c.args.number.0);
+      held = holding_none old c.args.number.0;
     }
 
 -- the number is open as before
@@ -48,6 +50,9 @@ loop-have-preserved g c =
           (omega (arith, c.min-end.ensures, c.loop-have-test.true)))
           (added_then old mid new c.args.number.0 front c.put_numbers.new.buf
           c.loop-have.invariant.frame c.loop-have.invariant.added c.in-All.ensures.called);
+      held =
+          holding_then old mid new c.args.number.0 c.loop-have.invariant.frame
+          c.loop-have.invariant.held c.in-All.ensures.holds;
     }
 
 -- the last block wasn't, or a front of it was
@@ -99,3 +104,19 @@ returns-clause-called g c =
     (numbers_bytes (take c.loop-have.have c.args.numbers.now)) (numbers_bytes c.args.numbers.now)
     (ap numbers_bytes (take_all c.loop-have.have c.args.numbers.now c.loop-have-test.false))
     c.loop-have.invariant.added
+
+-- whatever it answers, the file stays held
+pub returns-in-Fault-clause-holds : goal.returns-in-Fault-clause-holds
+returns-in-Fault-clause-holds g c =
+    holding_then (g.F.Folder.view c.args.folder.now) (g.F.Folder.view c.loop-have.folder)
+    (g.F.Folder.view c.append_bytes.new.folder) c.args.number.0 c.loop-have.invariant.frame
+    c.loop-have.invariant.held c.append_bytes.ensures.holds
+
+pub returns-in-NoMemory-clause-holds : goal.returns-in-NoMemory-clause-holds
+returns-in-NoMemory-clause-holds g c =
+    holding_then (g.F.Folder.view c.args.folder.now) (g.F.Folder.view c.loop-have.folder)
+    (g.F.Folder.view c.append_bytes.new.folder) c.args.number.0 c.loop-have.invariant.frame
+    c.loop-have.invariant.held c.append_bytes.ensures.holds
+
+pub returns-clause-holds : goal.returns-clause-holds
+returns-clause-holds g c = c.loop-have.invariant.held

@@ -1,6 +1,7 @@
 use Rattle.std.proofs.Common.{length, take, ◌-◌, ◌≤◌}
 use Rattle.jl_folder.specs.Views.{FolderAnswers}
 use Rattle.jl_array.specs.Dumps.{numbers_bytes}
+use Rattle.jl_array.specs.Dumping.{Holding}
 use Rattle.jl_array.proofs.AppendLemmas.{IsAdded}
 use Rattle.jl_array.proofs.appending.append_numbers.Given as goal
 
@@ -13,6 +14,7 @@ invariant-loop-have g l =
       frame : FolderAnswers (⊥) old new;
       within : l.have ≤ length l.numbers;
       added : IsAdded old new l.number.0 (numbers_bytes (take l.have l.numbers));
+      held : Holding old new l.number.0;
     }
 
 abbrev pub decreases-loop-have : goal.decreases-loop-have

@@ -4,6 +4,7 @@ use Rattle.jl_array.specs.declared.appending.Wrote.TheVariants as wrote
 use Rattle.jl_array.specs.Dumps.{numbers_bytes, dump_text}
 use Rattle.jl_array.proofs.AppendLemmas.{IsStopped, stopped_longer}
 use Rattle.jl_array.proofs.DumpLemmas.{IsWriting, writing_then}
+use Rattle.jl_array.proofs.HeldLemmas.{holding_then}
 use Rattle.jl_array.proofs.dumping.write_text.Goals as goal
 
 -- the head and the numbers were appended
@@ -47,3 +48,10 @@ returns-in-NoMemory-clause-called g c =
     subst (IsStopped old mid c.args.number.0) text
     (stopped_longer old mid c.args.number.0 c.head_of-head.result
     (numbers_bytes ns) c.in-NoMemory.ensures.called)
+
+-- whatever came of it, the file stays held
+pub returns-in-All-clause-holds : goal.returns-in-All-clause-holds
+returns-in-All-clause-holds g c =
+    holding_then (g.F.Folder.view c.args.folder.now) (g.F.Folder.view c.append_bytes.new.folder)
+    (g.F.Folder.view c.append_numbers.new.folder) c.args.number.0 c.append_bytes.ensures.frame
+    c.append_bytes.ensures.holds c.append_numbers.ensures.holds
