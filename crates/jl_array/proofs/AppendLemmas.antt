@@ -94,9 +94,11 @@ front_longer token path n start bytes more s own = record {
 module _ (path : PathView) (old new : FolderView) (opens : Opens) (number : ℕ) (file : OpenFile)
     (is : opens number ≡ Some file) (start piece : List ℕ) (same : new.token ≡ old.token)
     (short : length piece ≤ 65536) where
+  -- the open node
   abbrev n : ℕ
   n = file.node
 
+  -- what the own step of the call is, owes and leaves
   abbrev Turn : (Post : State → Type 0) → State → Option Move → Type 0
   Turn Post s own =
       IsOwnTurn (Spares path old.token) (WritesNamed path) old.token (IsOfDump path)
@@ -110,6 +112,7 @@ module _ (path : PathView) (old new : FolderView) (opens : Opens) (number : ℕ)
       (let e : Some part.file ≡ Some file = sym part.was_open ∙ is in let one : part.file
       ≡ file = cc in one)
 
+  -- some bytes are appended, and what that leaves is enough
   adds : (Post : State → Type 0) (k : ℕ) (s : State) (own : Option Move)
       → AppendsPart number piece k opens own
       → ((t : State) → IsWritten old.token path n (start ++ take k piece) t → Post t)
@@ -200,6 +203,7 @@ IsStopped old here number bytes =
     Dumping path old.token (IsWritten old.token path file.node start)
     (IsFrontWritten old.token path file.node start bytes) old here
 
+-- nothing was added
 pub added_none : (v : FolderView) (number : ℕ) → IsAdded v v number []
 added_none v number t file is path start =
     dumping_none path (IsWritten v.token path file.node start)
@@ -243,6 +247,7 @@ pub added_as : (old here : FolderView) (number : ℕ) (bytes bytes' : List ℕ) 
     → IsAdded old here number bytes → IsAdded old here number bytes'
 added_as old here number bytes bytes' same a = subst (IsAdded old here number) same a
 
+-- a front of some bytes is one of longer bytes
 pub stopped_longer : (old here : FolderView) (number : ℕ) (bytes more : List ℕ)
     → IsStopped old here number bytes → IsStopped old here number (bytes ++ more)
 stopped_longer old here number bytes more a t file is path start =
@@ -260,6 +265,7 @@ pub call_added : (old new : FolderView) (number k : ℕ) (piece : List ℕ) → 
 call_added old new number k piece same short call t file is path start =
     append_called path old new old.opens number file is start piece same short k (call t)
 
+-- and one that stopped
 pub call_stopped : (old new : FolderView) (number : ℕ) (piece : List ℕ) (r : Appended)
     → new.token ≡ old.token → length piece ≤ 65536
     → (old.told → Call old new (AppendsBytes number piece old.opens r))
@@ -276,6 +282,7 @@ pub record IsAppended (old here : FolderView) (number : ℕ) (bytes : List ℕ) 
   pub added : IsAdded old here number (take at bytes)
   pub held : Holding old here number
 
+-- the loop begins
 pub appended_start : (old : FolderView) (number : ℕ) (bytes : List ℕ)
     → IsAppended old old number bytes 0
 appended_start old number bytes =
@@ -288,12 +295,15 @@ appended_start old number bytes =
 
 module _ (old here next : FolderView) (number : ℕ) (bytes : List ℕ) (at m : ℕ) (few : m ≤ 65536)
     (so_far : IsAppended old here number bytes at) where
+  -- the piece that comes next
   abbrev piece : List ℕ
   piece = take m (drop at bytes)
 
+  -- it is no longer than a piece may be
   piece_short : length piece ≤ 65536
   piece_short = omega (arith, few, length-take m (drop at bytes))
 
+  -- a piece was appended, or its front
   pub appended_on : {Fails : Type 0} (k : ℕ) → k ≤ length piece → FolderAnswers Fails here next
       → (Fails → ⊥)
       → (here.told → Call here next (AppendsBytes number piece here.opens (appended.Wrote k)))
@@ -312,6 +322,7 @@ module _ (old here next : FolderView) (number : ℕ) (bytes : List ℕ) (at m : 
         (holding_append here next number piece (appended.Wrote k) frame.token piece_short call);
   }
 
+  -- whatever the call answers, the file stays held
   pub appended_held : (r : Appended) → next.token ≡ here.token
       → (here.told → Call here next (AppendsBytes number piece here.opens r))
       → Holding old next number
@@ -319,6 +330,7 @@ module _ (old here next : FolderView) (number : ℕ) (bytes : List ℕ) (at m : 
       holding_then old here next number so_far.frame so_far.held
       (holding_append here next number piece r same piece_short call)
 
+  -- the call failed, and the loop ends
   pub appended_stops : (r : Appended) → next.token ≡ here.token
       → (here.told → Call here next (AppendsBytes number piece here.opens r))
       → IsStopped old next number bytes

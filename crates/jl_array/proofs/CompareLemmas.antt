@@ -58,25 +58,31 @@ ends_here front whole file has short more same =
 
 -- what is wanted, by how much of it was compared
 module _ (before wanted : List ℕ) (have : ℕ) where
+  -- all that is wanted
   abbrev Whole : List ℕ
   Whole = before ++ wanted
 
+  -- what was compared
   abbrev Front : List ℕ
   Front = before ++ take have wanted
 
+  -- the whole is that and the rest
   in_two : Whole ≡ Front ++ drop have wanted
   in_two =
       ap (λ (l : List ℕ). before ++ l) (sym (take-append-drop have wanted))
       ∙ sym (append_assoc before (take have wanted) (drop have wanted))
 
+  -- so it begins with that
   whole_front : take (length Front) Whole ≡ Front
   whole_front =
       ap (take (length Front)) in_two ∙ take_at Front (drop have wanted) (length Front) refl
 
+  -- and goes on with the rest
   whole_rest : drop (length Front) Whole ≡ drop have wanted
   whole_rest =
       ap (drop (length Front)) in_two ∙ drop_at Front (drop have wanted) (length Front) refl
 
+  -- how much was compared
   front_size : have ≤ length wanted → length Front ≡ length before + have
   front_size within =
       omega (arith, within, length-append before (take have wanted), length-take have wanted)
@@ -118,9 +124,11 @@ module _ (a b : FolderView) (number done have k : ℕ) (buf buf' before wanted :
     (ReadsPart number (15 + done + have) k buf buf' a.opens)) (size : length before ≡ done)
     (within : have ≤ length wanted)
     (has : OpenHas number (HasPart 15 (before ++ take have wanted)) a) where
+  -- what is known of the file after the read
   abbrev Seen : List ℕ → Type 0
   Seen bytes = HasPart 15 (before ++ take have wanted) bytes × Gave (15 + done + have) k buf' bytes
 
+  -- it holds of the node
   seen : OpenHas number Seen b
   seen =
       before_and_gave a b number (15 + done) have k buf buf' same call
@@ -178,6 +186,7 @@ module _ (a b : FolderView) (number done have k : ℕ) (buf buf' before wanted :
 
 -- ---- a block of more
 
+-- bytes that differ from a front differ from the whole
 pub differs_longer : (part more file : List ℕ) → DiffersFrom part file
     → DiffersFrom (part ++ more) file
 differs_longer part more file d = record {
@@ -187,6 +196,7 @@ differs_longer part more file d = record {
   differ = λ e. d.differ (e ∙ take-append-le d.size part more d.of_part);
 }
 
+-- a file that ends in a front ends in the whole
 pub ends_longer : (part more file : List ℕ) → EndsInside part file → EndsInside (part ++ more) file
 ends_longer part more file d = record {
   ends = omega (arith, d.ends, length-append part more);

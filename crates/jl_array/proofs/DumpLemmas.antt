@@ -29,6 +29,7 @@ use Rattle.jl_array.proofs.AppendLemmas.{added_stops}
 
 -- ---- numbers, block by block
 
+-- the numbers up to a place, and those of the block behind it
 pub numbers_next : (have end : ℕ) (ns : List ℤ) → have ≤ end
     → numbers_bytes (take have ns) ++ numbers_bytes (take (end - have) (drop have ns))
     ≡ numbers_bytes (take end ns)
@@ -37,6 +38,7 @@ numbers_next have end ns within =
     sym (numbers_append (take have ns) (take (end - have) (drop have ns)))
     ∙ ap numbers_bytes (sym (take-add have (end - have) ns) ∙ ap (λ (n : ℕ). take n ns) whole)
 
+-- those, and all others
 pub numbers_rest : (end : ℕ) (ns : List ℤ)
     → numbers_bytes (take end ns) ++ numbers_bytes (drop end ns) ≡ numbers_bytes ns
 numbers_rest end ns =
@@ -63,6 +65,7 @@ writing_then old mid new number before more wrote.Fault frame first second =
 writing_then old mid new number before more wrote.NoMemory frame first second =
     added_stops old mid new number before more frame first second
 
+-- what was written survives the steps of others that spare it
 pub written_or_stable : (token : List ℕ) (path : PathView) (n : ℕ) (start bytes : List ℕ)
     (r : Wrote)
     → IsStable (Spares path token) token (Written token path n start bytes r)
@@ -102,6 +105,7 @@ writing_closed old mid new number bytes r first second close a t file is path st
 
 -- ---- the file is made
 
+-- a state stays one
 state_stable : (path : PathView) (token : List ℕ) → IsStable (Spares path token) token IsState
 state_stable path token other s m apart may spares ok = IsState-after s other m ok may
 
@@ -209,6 +213,7 @@ module _ (path : PathView) (numbers : List ℤ) (old mid new : FolderView) (numb
       (dumping_then path (λ u. IsState) (λ u. IsWritten u path file.node []) Post old mid new same
       (made_called path old mid same number file is call) second)
 
+  -- all was written
   pub dump_done : Dumping path mid.token (IsWritten mid.token path file.node [])
       (Written mid.token path file.node [] (dump_text numbers) wrote.All) mid new
       → DumpsList path numbers old new
@@ -224,6 +229,7 @@ module _ (path : PathView) (numbers : List ℤ) (old mid new : FolderView) (numb
         (filled (λ u. IsWritten u path file.node (dump_text numbers)) second);
   }
 
+  -- a front was written
   pub dump_stops : Dumping path mid.token (IsWritten mid.token path file.node [])
       (IsFrontWritten mid.token path file.node [] (dump_text numbers)) mid new
       → StopsDump path numbers old new

@@ -102,24 +102,29 @@ module _ (token : List ℕ) (path : PathView) (n : ℕ) where
           (named_or_given s (other, m) x n (sym (place_at-after s (other, m) x) ∙ e));
     }
 
+  -- others keep the file held
   pub held_stable : IsStable (KeepsName path token) token (IsHeld token path n)
   held_stable other s m apart may keeps held = held_stays other s held m may (keeps apart)
 
+  -- an append to it is to an own unfrozen file
   append_owned : (s : State) (more : List ℕ) → IsHeld token path n s
       → WritesOwn path token s (Append n more)
   unfolding WritesOwn
   append_owned s more held = held.own
 
+  -- and keeps it held
   append_held : (s : State) (more : List ℕ) → Allowed s (Append n more) → IsHeld token path n s
       → IsHeld token path n (after s (token, Append n more))
   unfolding IsRenamedFrom
   append_held s more may held = held_stays token s held (Append n more) may (λ no. no)
 
+-- a file that is made has this name
 create_owned : (token : List ℕ) (path : PathView) (n : ℕ) (s : State)
     → WritesOwn path token s (Create path n)
 unfolding WritesOwn
 create_owned token path n s = refl
 
+-- and is held
 create_held : (token : List ℕ) (path : PathView) (n : ℕ) (s : State) → IsState s
     → node_at s n ≡ None → IsHeld token path n (after s (token, Create path n))
 create_held token path n s ok fresh = record {
@@ -153,11 +158,13 @@ filling_then path Pre Mid Post old mid new same a b =
 
 -- ---- the file stays held
 
+-- no call
 pub holding_none : (v : FolderView) (number : ℕ) → Holding v v number
 holding_none v number t file is path =
     not_called (KeepsName path v.token) (WritesOwn path) (IsOfDump path)
     (IsHeld v.token path file.node) (IsHeld v.token path file.node) v (λ s held. held)
 
+-- one call after another
 pub holding_then : {Fails : Type 0} (old mid new : FolderView) (number : ℕ)
     → FolderAnswers Fails old mid → Holding old mid number → Holding mid new number
     → Holding old new number
@@ -242,17 +249,20 @@ Left path new created.Failed s = Unit {0}
 Left path new created.NoMemory s = Unit {0}
 
 module _ (path : PathView) (old mid : FolderView) (same : mid.token ≡ old.token) where
+  -- what the own step of making a file is, owes and leaves
   abbrev MakeTurn : Created → State → Option Move → Type 0
   MakeTurn r s own =
       IsOwnTurn (KeepsName path old.token) (WritesOwn path) old.token (IsOfDump path) IsState
       (Left path mid r) s own
 
+  -- no file was made
   still_made : (r : Created) (s : State) (own : Option Move)
       → ((u : State) → Left path mid r u) → own ≡ None → MakeTurn r s own
   still_made r s own left none =
       own_still (KeepsName path old.token) (WritesOwn path) old.token (IsOfDump path) IsState
       (Left path mid r) s own none (λ ok. left s)
 
+  -- a file was made
   step_made : (r : Created) (s : State) (own : Option Move) (node : ℕ)
       → (IsHeld old.token path node (after s (old.token, Create path node))
       → Left path mid r (after s (old.token, Create path node)))
@@ -265,6 +275,7 @@ module _ (path : PathView) (old mid : FolderView) (same : mid.token ≡ old.toke
         λ given. left (create_held old.token path node s ok may.2),
       ))
 
+  -- by the answer
   make_turn : (r : Created) (s : State) (own : Option Move)
       → CreatesFile path mid.opens r s own → MakeTurn r s own
   make_turn (created.Made number) s own gives =
@@ -291,6 +302,7 @@ module _ (path : PathView) (old mid : FolderView) (same : mid.token ≡ old.toke
   make_turn created.NoMemory s own (inr made) =
       step_made created.NoMemory s own made.0 (λ held. tt) made.1
 
+  -- the claim on that call
   made_left : (r : Created) → Call old mid (CreatesFile path mid.opens r)
       → Filling path old.token IsState (Left path mid r) old mid
   made_left r call =

@@ -60,10 +60,12 @@ says_long count file says =
 
 -- ---- by its length
 
+-- the file ends in its head
 pub short_head : (head file : List ℕ) → length head ≡ 15 → length file < 0 + length head
     → IsShorter file
 short_head head file size short = λ few. inl (omega (arith, size, short))
 
+-- it begins with another mark
 pub other_mark : (head file : List ℕ) → length head ≡ 15 → take 7 head ≢ dump_mark
     → HasPart 0 head file → IsNoDump file
 other_mark head file size other has =
@@ -73,16 +75,19 @@ other_mark head file size other has =
       inl (λ mark. other (sym (ap (take 7) whole) ∙ take-take 7 15 file (omega arith) ∙ mark)),
     )
 
+-- its head says more than a file can have
 pub never_whole : (count : ℕ) (file : List ℕ) → 2 ^ 64 ≤ dump_length count → SaysCount count file
     → IsShorter file
 never_whole count file large says = λ few. inr (count, says, omega (arith, few, large))
 
+-- its last byte is missing
 pub short_body : (count end : ℕ) (byte file : List ℕ) → end ≡ dump_length count → length byte ≡ 1
     → SaysCount count file × (length file < end - 1 + length byte) → IsShorter file
 short_body count end byte file is size both =
     let short : length file < end - 1 + length byte = both.1 in
     λ few. inr (count, both.0, omega (arith, is, size, short))
 
+-- a byte stands behind its last
 pub long_body : (count end : ℕ) (byte file : List ℕ) → end ≡ dump_length count → length byte ≡ 1
     → SaysCount count file × HasPart end byte file → IsNoDump file
 long_body count end byte file is size both =
@@ -91,6 +96,7 @@ long_body count end byte file is size both =
       inr (count, both.0, omega (arith, is, size, long)),
     )
 
+-- its last byte is there, and none behind it
 pub whole_body : (count end : ℕ) (last byte file : List ℕ) → end ≡ dump_length count
     → length last ≡ 1 → length byte ≡ 1
     → (SaysCount count file × HasPart (end - 1) last file) × (length file < end + length byte)
@@ -116,6 +122,7 @@ said_later a b number count Q same waits said has =
 module _ (a b₁ b₂ : FolderView) (path : PathView) (number : ℕ)
     (call : Call a b₁ (OpensNode path number b₁.opens)) (waits : Waits b₁ b₂)
     (same : b₂.opens ≡ b₁.opens) where
+  -- the opening itself moved nothing
   opened : Went a b₁ call.others
   opened = went_waits_of call.answer.move_is
     where

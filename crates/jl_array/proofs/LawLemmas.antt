@@ -13,18 +13,21 @@ use Rattle.jl_array.proofs.JudgeLemmas.{says_one, says_mark, says_long}
 
 -- ---- one way
 
+-- an array is not cut off
 pub dump_not_cut : (count : ℕ) (file : List ℕ) → IsDump count file → IsCutOff file → ⊥
 dump_not_cut count file dump (inl short) = omega (arith, short, says_long count file dump.says)
 dump_not_cut count file dump (inr cut) =
     let short : length file < dump_length cut.0 = cut.2 in
     omega (arith, short, dump.whole, says_one count cut.0 file dump.says cut.1)
 
+-- nor is it none
 pub dump_not_none : (count : ℕ) (file : List ℕ) → IsDump count file → IsNoDump file → ⊥
 dump_not_none count file dump (long, inl other) = other (says_mark count file dump.says)
 dump_not_none count file dump (long, inr more) =
     let past : dump_length more.0 < length file = more.2 in
     omega (arith, past, dump.whole, says_one count more.0 file dump.says more.1)
 
+-- and what is cut off is not none
 pub cut_not_none : (file : List ℕ) → IsCutOff file → IsNoDump file → ⊥
 cut_not_none file (inl short) (long, why) = omega (arith, short, long)
 cut_not_none file (inr cut) (long, inl other) = other (says_mark cut.0 file cut.1)
@@ -33,6 +36,7 @@ cut_not_none file (inr cut) (long, inr more) =
     let past : dump_length more.0 < length file = more.2 in
     omega (arith, short, past, says_one cut.0 more.0 file cut.1 more.1)
 
+-- the text of a list is an array of its count
 pub text_dump : (xs : List ℤ) → length xs < 2 ^ 64 → IsDump (length xs) (dump_text xs)
 unfolding dump_text
 text_dump xs fits = record {
@@ -52,11 +56,13 @@ unfoldable numbers_of : ℕ → List ℕ → List ℤ
 numbers_of zero bytes = []
 numbers_of (suc k) bytes = cast_signed w64 (little_number 8 bytes) ∷ numbers_of k (drop 8 bytes)
 
+-- they are as many
 of_size : (k : ℕ) (bytes : List ℕ) → length (numbers_of k bytes) ≡ k
 unfolding numbers_of
 of_size zero bytes = refl
 of_size (suc k) bytes = ap suc (of_size k (drop 8 bytes))
 
+-- each is a signed number of 64 bits
 of_signed : (k : ℕ) (bytes : List ℕ) → All (λ b. b < 256) bytes → AreSigned (numbers_of k bytes)
 unfolding numbers_of
 of_signed zero bytes small i d h = absurd (omega (arith, h))
@@ -67,6 +73,7 @@ of_signed (suc k) bytes small zero d h =
 of_signed (suc k) bytes small (suc i) d h =
     of_signed k (drop 8 bytes) (small_drop 8 bytes small) i d (omega (arith, h))
 
+-- each is that of its eight bytes
 of_index : (k : ℕ) (bytes : List ℕ) (d : ℤ) (i : ℕ) → i < k
     → get_or (numbers_of k bytes) i d ≡ cast_signed w64 (little_number 8 (drop (8 * i) bytes))
 unfolding numbers_of

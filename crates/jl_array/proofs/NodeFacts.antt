@@ -15,6 +15,7 @@ use Rattle.jl_array.specs.Dumps.{HasPart}
 use Rattle.jl_array.specs.Nodes.{OpenHas}
 use Rattle.jl_array.proofs.Parts.{part_grown, part_front}
 
+-- what is there is one thing
 one_of : {A : Type 0} (o : Option A) (x y : A) → o ≡ Some x → o ≡ Some y → x ≡ y
 one_of o x y e f = let h : Some x ≡ Some y = sym e ∙ f in cc
 
@@ -37,6 +38,7 @@ has_node v number P told opened all = by_file (v.opens number) refl opened
           has = all there.view.bytes;
         }
 
+-- a weaker fact
 pub has_as : (v : FolderView) (number : ℕ) (P Q : List ℕ → Type 0)
     → ((bytes : List ℕ) → P bytes → Q bytes) → OpenHas number P v → OpenHas number Q v
 has_as v number P Q f has =
@@ -70,9 +72,11 @@ has_both v number P Q a b =
 abbrev pub IsLastingFact : (List ℕ → Type 0) → Type 0
 IsLastingFact P = (bytes rest : List ℕ) → P bytes → P (bytes ++ rest)
 
+-- a part of a file is such a fact
 pub part_lasting : (at : ℕ) (part : List ℕ) → IsLastingFact (HasPart at part)
 part_lasting at part bytes rest has = part_grown at part bytes rest has
 
+-- it holds after others moved
 pub has_later : (a b : FolderView) (number : ℕ) (P : List ℕ → Type 0) → IsLastingFact P
     → b.opens ≡ a.opens → Waits a b → OpenHas number P a → OpenHas number P b
 has_later a b number P lasts same waits has =
@@ -111,6 +115,7 @@ pub record Gave (at k : ℕ) (part file : List ℕ) : Type 0 where
   pub stands : HasPart at (take k part) file
   pub ends : k ≡ 0 → length file ≤ at
 
+-- what a read gave, of the node that is open
 pub read_gives : (a b : FolderView) (number at k : ℕ) (buf buf' : List ℕ) → b.opens ≡ a.opens
     → Call a b (ReadsPart number at k buf buf' a.opens) → OpenHas number (Gave at k buf') b
 read_gives a b number at k buf buf' same call =

@@ -23,18 +23,22 @@ use Rattle.jl_array.specs.Dumps.{dump_text, dump_length, AreSigned}
 
 -- ---- one number
 
+-- a number has eight bytes
 pub number_size : (z : ℤ) → length (number_bytes z) ≡ 8
 unfolding number_bytes
 number_size z = refl
 
+-- so has a count
 pub count_size : (n : ℕ) → length (count_bytes n) ≡ 8
 unfolding count_bytes
 count_size n = refl
 
+-- the mark has seven
 pub mark_size : length dump_mark ≡ 7
 unfolding dump_mark
 mark_size = refl
 
+-- the two's complement of a number has 64 bits
 unsigned_below : (z : ℤ) → FitsSigned w64 z → cast_unsigned w64 z < 2 ^ 64
 unsigned_below (pos n) fits = let h : n < 2 ^ 63 = fits.sfits in omega (arith, h)
 unsigned_below (negsuc n) fits = omega arith
@@ -46,11 +50,13 @@ number_back z fits =
     ap (cast_signed w64) (from_le_bytes-to_le_bytes_8 (cast_unsigned w64 z) (unsigned_below z fits))
     ∙ to_z-of_z w64 z fits
 
+-- two numbers have two texts
 number_one : (x y : ℤ) → FitsSigned w64 x → FitsSigned w64 y → number_bytes x ≡ number_bytes y
     → x ≡ y
 number_one x y fx fy e =
     sym (number_back x fx) ∙ ap (λ bs. cast_signed w64 (from_le_bytes w64 bs)) e ∙ number_back y fy
 
+-- and so have two counts
 count_one : (m n : ℕ) → m < 2 ^ 64 → n < 2 ^ 64 → count_bytes m ≡ count_bytes n → m ≡ n
 unfolding count_bytes
 count_one m n fm fn e =
@@ -59,18 +65,21 @@ count_one m n fm fn e =
 
 -- ---- bytes are below 256
 
+-- each byte, and what stands for one behind the end
 pub small_index : (bs : List ℕ) → All (λ b. b < 256) bs → (i : ℕ) → get_or bs i 0 < 256
 small_index bs small i = elim (cases_lt i (length bs)) [
   | inl h ↦ small i 0 h
   | inr h ↦ let e : get_or bs i 0 ≡ 0 = get_or_past bs i 0 h in omega (arith, e)
 ]
 
+-- the first bytes
 pub small_take : (k : ℕ) (bs : List ℕ) → All (λ b. b < 256) bs → All (λ b. b < 256) (take k bs)
 small_take k bs small i d h =
     let long = length-take k bs in
     subst (λ (b : ℕ). b < 256) (sym (get_or-take k bs i d (omega (arith, long, h))))
     (small i d (omega (arith, long, h)))
 
+-- the others
 pub small_drop : (k : ℕ) (bs : List ℕ) → All (λ b. b < 256) bs → All (λ b. b < 256) (drop k bs)
 small_drop k bs small i d h =
     subst (λ (b : ℕ). b < 256) (sym (get_or-drop k bs i d))
@@ -78,6 +87,7 @@ small_drop k bs small i d h =
 
 -- ---- numbers of bytes
 
+-- eight bytes make a number of 64 bits
 from_below : (bs : List ℕ) → All (λ b. b < 256) bs → from_le_bytes w64 bs < 2 ^ 64
 from_below bs small =
     let same : from_le_bytes w64 bs ≡ little_from 0 8 bs = omega arith in
@@ -105,6 +115,7 @@ little_back bs long small =
 
 -- ---- numbers, one after the other
 
+-- how many bytes numbers have
 flat_size : (xs : List ℤ) → length (flat_map number_bytes xs) ≡ 8 * length xs
 flat_size [] = refl
 flat_size (x ∷ xs) =
@@ -116,19 +127,23 @@ flat_size (x ∷ xs) =
       flat_size xs,
     )
 
+-- the same by their name
 pub numbers_size : (xs : List ℤ) → length (numbers_bytes xs) ≡ 8 * length xs
 unfolding numbers_bytes
 numbers_size xs = flat_size xs
 
+-- the bytes of two lists
 pub numbers_append : (xs ys : List ℤ)
     → numbers_bytes (xs ++ ys) ≡ numbers_bytes xs ++ numbers_bytes ys
 unfolding numbers_bytes
 numbers_append xs ys = flat_map-append number_bytes xs ys
 
+-- no numbers have no bytes
 pub numbers_none : numbers_bytes [] ≡ []
 unfolding numbers_bytes
 numbers_none = refl
 
+-- numbers that were read one by one have the bytes that they were read from
 flat_back : (src : List ℕ) (dst : List ℤ) → length src ≡ 8 * length dst → All (λ b. b < 256) src
     → ((d : ℤ) (k : ℕ) → k < length dst → get_or dst k d
     ≡ cast_signed w64 (little_number 8 (drop (8 * k) src)))
@@ -182,10 +197,12 @@ head_is head n size small mark count =
     (sym (count_back (drop 7 head) (omega (arith, size, length-drop 7 head))
     (small_drop 7 head small)) ∙ ap count_bytes (sym count))
 
+-- a head has 15 bytes
 pub head_size : (n : ℕ) → length (dump_head n) ≡ 15
 unfolding dump_head
 head_size n = omega (arith, length-append dump_mark (count_bytes n), mark_size, count_size n)
 
+-- a text has those, and eight for each number
 pub text_size : (xs : List ℤ) → length (dump_text xs) ≡ dump_length (length xs)
 unfolding dump_text
 text_size xs =
@@ -205,17 +222,20 @@ head_one m n fm fn e =
 
 -- ---- lists that fit
 
+-- the first numbers
 pub signed_take : (k : ℕ) (xs : List ℤ) → AreSigned xs → AreSigned (take k xs)
 signed_take k xs all i d h =
     let long = length-take k xs in
     subst (FitsSigned w64) (sym (get_or-take k xs i d (omega (arith, long, h))))
     (all i d (omega (arith, long, h)))
 
+-- the others
 pub signed_drop : (k : ℕ) (xs : List ℤ) → AreSigned xs → AreSigned (drop k xs)
 signed_drop k xs all i d h =
     subst (FitsSigned w64) (sym (get_or-drop k xs i d))
     (all (k + i) d (omega (arith, length-drop k xs, h)))
 
+-- two lists have two texts
 flat_one : (xs ys : List ℤ) → AreSigned xs → AreSigned ys
     → flat_map number_bytes xs ≡ flat_map number_bytes ys → xs ≡ ys
 flat_one [] [] fx fy e = refl
@@ -275,9 +295,11 @@ text_front xs ys rest fx fy e =
       text_size ys,
     ))
 
+-- no numbers
 pub signed_none : AreSigned []
 signed_none i d h = absurd (omega (arith, h))
 
+-- two lists
 pub signed_append : (xs ys : List ℤ) → AreSigned xs → AreSigned ys → AreSigned (xs ++ ys)
 signed_append xs ys fx fy i d h = elim (cases_lt i (length xs)) [
   | inl front ↦ subst (FitsSigned w64) (sym (get_or_append_left xs ys d i front)) (fx i d front)
@@ -304,6 +326,7 @@ numbers_push xs z =
     flat_map-append number_bytes xs (z ∷ [])
     ∙ ap (λ (l : List ℕ). flat_map number_bytes xs ++ l) (append-nil (number_bytes z))
 
+-- and its sign
 pub signed_push : (xs : List ℤ) (z : ℤ) → AreSigned xs → FitsSigned w64 z → AreSigned (xs ++ z ∷ [])
 signed_push xs z fits fit = signed_append xs (z ∷ []) fits (one z fit)
   where

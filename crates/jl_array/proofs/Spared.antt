@@ -34,6 +34,7 @@ file_of (Some x) h =
     elim x as (λ y. is_file_place y ≡ true → (n : ℕ) × (Some y ≡ Some (File n)))
     [ Folder ↦ λ f. absurd (true≢false (sym f)) | File n ↦ λ f. (n, refl) ] h
 
+-- a path names one file
 one_number : (o : Option Place) (m n : ℕ) → o ≡ Some (File m) → o ≡ Some (File n) → m ≡ n
 one_number o m n e f = let h : Some (File m) ≡ Some (File n) = sym e ∙ f in cc
 
@@ -65,6 +66,7 @@ Gives s (t, Rename p q) x k = place_at s p ≡ Some (File k)
 Gives s (t, Remove p) x k = ⊥
 Gives s (t, RemoveDir p) x k = ⊥
 
+-- a path that names a file after a rename named it before, or took it over
 renamed_from : (s : State) (t : List ℕ) (p q x : PathView) (k : ℕ) (was : Option Place)
     → place_at s p ≡ was → place_renamed was p q x (place_at s x) ≡ Some (File k)
     → (place_at s x ≡ Some (File k)) ⊎ (place_at s p ≡ Some (File k))
@@ -158,16 +160,19 @@ module _ (token : List ℕ) (path : PathView) (n : ℕ) (bytes : List ℕ) where
               (named_or_given s (other, m) x n (sym (place_at-after s (other, m) x) ∙ e));
         }
 
+  -- so a claim on a call may rest on it
   pub written_stable : IsStable (Spares path token) token (IsWritten token path n bytes)
   written_stable other s m apart may spares own = stays_written other s apart own m may spares
 
   -- ---- own steps
 
+  -- an append adds to the bytes
   pub appends_written : (s : State) (more : List ℕ) → IsWritten token path n bytes s
       → IsWritten token path n (bytes ++ more) (after s (token, Append n more))
   appends_written s more own =
       record { named = own.named; node = appended_node s token n more _ own.node; only = own.only }
 
+  -- and is to the own file that the path names
   pub append_named : (s : State) (more : List ℕ) → IsWritten token path n bytes s
       → WritesNamed path token s (Append n more)
   unfolding WritesNamed
@@ -181,6 +186,7 @@ module _ (token : List ℕ) (path : PathView) (n : ℕ) (bytes : List ℕ) where
     };
   }
 
+-- a file that is made is empty
 pub creates_written : (token : List ℕ) (path : PathView) (n : ℕ) (s : State) → IsState s
     → node_at s n ≡ None → IsWritten token path n [] (after s (token, Create path n))
 creates_written token path n s ok fresh = record {
@@ -195,15 +201,18 @@ creates_written token path n s ok fresh = record {
       (sym (place_at-after s (token, Create path n) x) ∙ e));
 }
 
+-- and has this name
 pub create_named : (token : List ℕ) (path : PathView) (n : ℕ) (s : State)
     → WritesNamed path token s (Create path n)
 unfolding WritesNamed
 create_named token path n s = refl
 
+-- making the file is a kind of move of a dump
 pub kind_create : (path : PathView) (n : ℕ) → IsOfDump path (Create path n)
 unfolding IsOfDump
 kind_create path n = refl
 
+-- so is appending a piece
 pub kind_append : (path : PathView) (n : ℕ) (bytes : List ℕ) → length bytes ≤ 65536
     → IsOfDump path (Append n bytes)
 unfolding IsOfDump

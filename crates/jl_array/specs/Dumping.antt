@@ -67,10 +67,8 @@ abbrev pub Spares : PathView → List ℕ → StepFact
 Spares path mine token s m = token ≢ mine → (Touches m path → ⊥) × (AppendsTo path s m → ⊥)
 
 -- Own moves make this file or append pieces, whatever others do.
--- Begun where Pre held, each is on the own unfrozen file that the path names, wherever others
--- spared
--- it before;
--- and where all of them spare it, the call ends where Post holds.
+-- Begun where Pre held, each append is to the own unfrozen file that the path names, wherever
+-- others spared it before; and where all of them spare it, the call ends where Post holds.
 abbrev pub Dumping : PathView → List ℕ → (Pre Post : State → Type 0) → (old new : FolderView)
     → Type 0
 Dumping path mine Pre Post old new =

@@ -31,6 +31,7 @@ returns-in-Failed-clause-called g c =
     (c.min-end.result - c.loop-at.at) (omega (arith, c.min-end.ensures)) c.loop-at.invariant
     c.append.result c.append.ensures.frame.token c.append.ensures.call
 
+-- the same where memory was wanting
 pub returns-in-NoMemory-clause-called : goal.returns-in-NoMemory-clause-called
 returns-in-NoMemory-clause-called g c =
     appended_stops (g.F.Folder.view c.args.folder.now) (g.F.Folder.view c.loop-at.folder)
@@ -53,6 +54,7 @@ returns-in-Failed-clause-holds g c =
     (c.min-end.result - c.loop-at.at) (omega (arith, c.min-end.ensures)) c.loop-at.invariant
     c.append.result c.append.ensures.frame.token c.append.ensures.call
 
+-- where memory was wanting
 pub returns-in-NoMemory-clause-holds : goal.returns-in-NoMemory-clause-holds
 returns-in-NoMemory-clause-holds g c =
     appended_held (g.F.Folder.view c.args.folder.now) (g.F.Folder.view c.loop-at.folder)
@@ -60,5 +62,6 @@ returns-in-NoMemory-clause-holds g c =
     (c.min-end.result - c.loop-at.at) (omega (arith, c.min-end.ensures)) c.loop-at.invariant
     c.append.result c.append.ensures.frame.token c.append.ensures.call
 
+-- and where all were appended
 pub returns-clause-holds : goal.returns-clause-holds
 returns-clause-holds g c = c.loop-at.invariant.held

@@ -76,6 +76,7 @@ returns-in-Fault-clause-called g c =
     (added_stops old mid new c.args.number.0 front c.put_numbers.new.buf c.loop-have.invariant.frame
     c.loop-have.invariant.added c.in-Fault.ensures.called))
 
+-- the same where memory was wanting
 pub returns-in-NoMemory-clause-called : goal.returns-in-NoMemory-clause-called
 returns-in-NoMemory-clause-called g c =
     let view = g.F.Folder.view in
@@ -112,11 +113,13 @@ returns-in-Fault-clause-holds g c =
     (g.F.Folder.view c.append_bytes.new.folder) c.args.number.0 c.loop-have.invariant.frame
     c.loop-have.invariant.held c.append_bytes.ensures.holds
 
+-- where memory was wanting
 pub returns-in-NoMemory-clause-holds : goal.returns-in-NoMemory-clause-holds
 returns-in-NoMemory-clause-holds g c =
     holding_then (g.F.Folder.view c.args.folder.now) (g.F.Folder.view c.loop-have.folder)
     (g.F.Folder.view c.append_bytes.new.folder) c.args.number.0 c.loop-have.invariant.frame
     c.loop-have.invariant.held c.append_bytes.ensures.holds
 
+-- and where all were appended
 pub returns-clause-holds : goal.returns-clause-holds
 returns-clause-holds g c = c.loop-have.invariant.held

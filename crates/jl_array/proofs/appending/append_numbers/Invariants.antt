@@ -17,5 +17,6 @@ invariant-loop-have g l =
       held : Holding old new l.number.0;
     }
 
+-- the numbers that are left
 abbrev pub decreases-loop-have : goal.decreases-loop-have
 decreases-loop-have g l = length l.numbers - l.have

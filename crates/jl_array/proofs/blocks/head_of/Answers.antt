@@ -14,6 +14,7 @@ put_head : (mark count : List ℕ) (n : ℕ) → mark ≡ dump_mark
 unfolding dump_mark dump_head count_bytes zeros
 put_head mark count n is_mark is_count = rw (is_count, is_mark) refl
 
+-- the head of this count
 pub returns : goal.returns
 unfolding dump_mark count_bytes zeros
 returns c =

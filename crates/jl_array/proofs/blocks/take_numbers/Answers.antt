@@ -9,6 +9,7 @@ returns-clause-bytes c =
     (omega (arith, c.requires, c.read_i64_into.auto.dst))
     (small_bytes c.args.bytes.now c.type_inv.bytes) c.read_i64_into.ensures
 
+-- and are signed numbers of 64 bits
 pub returns-clause-signed : goal.returns-clause-signed
 returns-clause-signed c =
     signed_read c.args.bytes.now c.read_i64_into.new.dst

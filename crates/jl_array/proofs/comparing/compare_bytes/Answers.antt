@@ -37,11 +37,13 @@ returns-in-Read-eq0-clause-waits g c = λ t.
     read_waits _ _ _ _ _ _ _ _ c.read_at.result c.loop-have.invariant.frame.token
     (c.loop-have.invariant.waits t) (c.read_at.ensures.call (c.loop-have.invariant.frame.told t))
 
+-- before a piece that is another
 pub returns-then-ne-clause-waits : goal.returns-then-ne-clause-waits
 returns-then-ne-clause-waits g c = λ t.
     read_waits _ _ _ _ _ _ _ _ c.read_at.result c.loop-have.invariant.frame.token
     (c.loop-have.invariant.waits t) (c.read_at.ensures.call (c.loop-have.invariant.frame.told t))
 
+-- and where it fails
 pub returns-in-Failed-clause-waits : goal.returns-in-Failed-clause-waits
 returns-in-Failed-clause-waits g c = λ t.
     read_waits _ _ _ _ _ _ _ _ c.read_at.result c.loop-have.invariant.frame.token

@@ -20,5 +20,6 @@ invariant-loop-have g l =
           → OpenHas l.number.0 (HasPart 15 (before ++ take l.have l.wanted)) new;
     }
 
+-- the bytes that are left
 abbrev pub decreases-loop-have : goal.decreases-loop-have
 decreases-loop-have g l = length l.wanted - l.have

@@ -72,6 +72,7 @@ returns-in_default-clause-compares g c = λ t.
     (subst (λ (l : List ℕ). ComparesBytes c.args.number.0 (before ++ l) c.compare_bytes.result
     (g.F.Folder.view c.compare_bytes.new.folder)) part answer)
 
+-- so nothing is claimed of the numbers
 pub returns-in_default-clause-signed : goal.returns-in_default-clause-signed
 returns-in_default-clause-signed g c = λ yes. absurd (c.in_default.not-Yes yes)
 
@@ -83,6 +84,7 @@ returns-clause-compares g c = λ t.
     (take_all c.loop-have.have c.args.numbers.now c.loop-have-test.false)
     (c.loop-have.invariant.so_far t)
 
+-- and all were read
 pub returns-clause-signed : goal.returns-clause-signed
 returns-clause-signed g c =
     λ yes. subst AreSigned (take_all c.loop-have.have c.args.numbers.now c.loop-have-test.false)

@@ -19,5 +19,6 @@ invariant-loop-have g l =
           → OpenHas l.number.0 (HasPart 15 (numbers_bytes (take l.have l.numbers))) new;
     }
 
+-- the numbers that are left
 abbrev pub decreases-loop-have : goal.decreases-loop-have
 decreases-loop-have g l = length l.numbers - l.have

@@ -39,6 +39,7 @@ returns-in-Fault-clause-dumps g c = λ t.
     (Written mid.token path made.0.node [] (dump_text ns) wrote.Fault) mid new) c.as_slice.ensures
     (c.in-Fault.ensures.called (c.create.ensures.frame.told t) made.0 made.1 path []))
 
+-- the same where memory was wanting
 pub returns-in-NoMemory-write_file-clause-dumps : goal.returns-in-NoMemory-write_file-clause-dumps
 returns-in-NoMemory-write_file-clause-dumps g c = λ t.
     let old = g.F.Folder.view c.args.folder.now in
@@ -63,6 +64,7 @@ returns-in-Failed-clause-dumps g c = λ t.
     (g.met.F.Folder.lawful c.args.folder.now t)
     (retold old mid _ _ (λ s own h. h) (c.in-Failed.ensures.call t))
 
+-- the same where memory was wanting
 pub returns-in-NoMemory-clause-dumps : goal.returns-in-NoMemory-clause-dumps
 returns-in-NoMemory-clause-dumps g c = λ t.
     let old = g.F.Folder.view c.args.folder.now in
@@ -84,6 +86,7 @@ returns-in-All-clause-owned g c = λ t.
     c.create.ensures.frame.told made.0 made.1 (c.in-Made.ensures.call t)
     c.write_file.ensures.holds
 
+-- as far as it went
 pub returns-in-Fault-clause-owned : goal.returns-in-Fault-clause-owned
 returns-in-Fault-clause-owned g c = λ t.
     let old = g.F.Folder.view c.args.folder.now in
@@ -94,6 +97,7 @@ returns-in-Fault-clause-owned g c = λ t.
     c.create.ensures.frame.told made.0 made.1 (c.in-Made.ensures.call t)
     c.write_file.ensures.holds
 
+-- as far as memory went
 pub returns-in-NoMemory-write_file-clause-owned : goal.returns-in-NoMemory-write_file-clause-owned
 returns-in-NoMemory-write_file-clause-owned g c = λ t.
     let old = g.F.Folder.view c.args.folder.now in
@@ -111,18 +115,21 @@ returns-in-Exists-clause-owned g c = λ t.
     (g.F.Folder.view c.create.new.self) c.create.ensures.frame.token created.Exists
     (g.met.F.Folder.lawful c.args.folder.now t) (c.in-Exists.ensures.call t)
 
+-- no parent
 pub returns-in-NoParent-clause-owned : goal.returns-in-NoParent-clause-owned
 returns-in-NoParent-clause-owned g c = λ t.
     filling_once c.args.path.now (g.F.Folder.view c.args.folder.now)
     (g.F.Folder.view c.create.new.self) c.create.ensures.frame.token created.NoParent
     (g.met.F.Folder.lawful c.args.folder.now t) (c.in-NoParent.ensures.call t)
 
+-- a fault
 pub returns-in-Failed-clause-owned : goal.returns-in-Failed-clause-owned
 returns-in-Failed-clause-owned g c = λ t.
     filling_once c.args.path.now (g.F.Folder.view c.args.folder.now)
     (g.F.Folder.view c.create.new.self) c.create.ensures.frame.token created.Failed
     (g.met.F.Folder.lawful c.args.folder.now t) (c.in-Failed.ensures.call t)
 
+-- no memory
 pub returns-in-NoMemory-clause-owned : goal.returns-in-NoMemory-clause-owned
 returns-in-NoMemory-clause-owned g c = λ t.
     filling_once c.args.path.now (g.F.Folder.view c.args.folder.now)

@@ -37,6 +37,7 @@ returns-in-Fault-clause-called g c =
     (stopped_longer old mid c.args.number.0 c.head_of-head.result
     (numbers_bytes ns) c.in-Fault.ensures.called)
 
+-- the same where memory was wanting
 pub returns-in-NoMemory-clause-called : goal.returns-in-NoMemory-clause-called
 unfolding dump_text
 returns-in-NoMemory-clause-called g c =

@@ -28,6 +28,7 @@ returns-in-Read-eq0-clause-waits g c = λ t.
     read_waits _ _ _ _ _ _ _ _ c.read_at.result c.loop-have.invariant.frame.token
     (c.loop-have.invariant.waits t) (c.read_at.ensures.call (c.loop-have.invariant.frame.told t))
 
+-- nor does one that fails
 pub returns-in-Failed-clause-waits : goal.returns-in-Failed-clause-waits
 returns-in-Failed-clause-waits g c = λ t.
     read_waits _ _ _ _ _ _ _ _ c.read_at.result c.loop-have.invariant.frame.token

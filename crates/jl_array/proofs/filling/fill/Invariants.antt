@@ -17,5 +17,6 @@ invariant-loop-have g l =
       so_far : old.told → OpenHas l.number.0 (HasPart l.at (take l.have l.buf)) new;
     }
 
+-- the room that is left
 abbrev pub decreases-loop-have : goal.decreases-loop-have
 decreases-loop-have g l = length l.buf - l.have

@@ -9,5 +9,6 @@ returns-clause-not_other c = has_not_other
 pub returns-clause-not_short : goal.returns-clause-not_short
 returns-clause-not_short c = has_not_short
 
+-- others, or an end
 pub returns-clause-not_both : goal.returns-clause-not_both
 returns-clause-not_both c = other_not_short

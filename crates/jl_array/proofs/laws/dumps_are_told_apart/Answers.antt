@@ -5,6 +5,7 @@ use Rattle.jl_array.proofs.laws.dumps_are_told_apart.Goals as goal
 pub returns-clause-injective : goal.returns-clause-injective
 returns-clause-injective c = text_one
 
+-- of this size
 pub returns-clause-size : goal.returns-clause-size
 returns-clause-size c = text_size
 

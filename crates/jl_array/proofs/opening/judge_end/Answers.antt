@@ -12,11 +12,13 @@ returns-in-Whole-fill-clause-waits g c =
     λ t. waits_trans _ _ _ c.fill.ensures.frame.token (c.fill.ensures.waits t)
     (c.fill-2.ensures.waits (c.fill.ensures.frame.told t))
 
+-- where the second finds nothing
 pub returns-in-Short-fill-clause-waits : goal.returns-in-Short-fill-clause-waits
 returns-in-Short-fill-clause-waits g c =
     λ t. waits_trans _ _ _ c.fill.ensures.frame.token (c.fill.ensures.waits t)
     (c.fill-2.ensures.waits (c.fill.ensures.frame.told t))
 
+-- and where it fails
 pub returns-in-Fault-fill-clause-waits : goal.returns-in-Fault-fill-clause-waits
 returns-in-Fault-fill-clause-waits g c =
     λ t. waits_trans _ _ _ c.fill.ensures.frame.token (c.fill.ensures.waits t)

@@ -12,6 +12,7 @@ returns-in-Ok-clause-waits g c = λ t.
     waits_trans _ _ _ c.open_file.ensures.frame.token (call_waits _ _ _ call call.answer.move_is)
     (c.judge.ensures.waits (c.open_file.ensures.frame.told t))
 
+-- nor does closing
 pub returns-in-Err-clause-waits : goal.returns-in-Err-clause-waits
 returns-in-Err-clause-waits g c = λ t.
     let a = g.F.Folder.view c.args.folder.now in

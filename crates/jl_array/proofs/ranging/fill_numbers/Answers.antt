@@ -32,6 +32,7 @@ returns-in-Short-clause-waits g c = λ t.
     waits_trans _ _ _ c.loop-have.invariant.frame.token (c.loop-have.invariant.waits t)
     (c.fill.ensures.waits (c.loop-have.invariant.frame.told t))
 
+-- nor does one that fails
 pub returns-in-Fault-clause-waits : goal.returns-in-Fault-clause-waits
 returns-in-Fault-clause-waits g c = λ t.
     waits_trans _ _ _ c.loop-have.invariant.frame.token (c.loop-have.invariant.waits t)

@@ -18,5 +18,6 @@ invariant-loop-have g l =
       so_far : old.told → OpenHas l.number.0 (HasPart l.at (numbers_bytes (take l.have l.out))) new;
     }
 
+-- the room that is left
 abbrev pub decreases-loop-have : goal.decreases-loop-have
 decreases-loop-have g l = length l.out - l.have
