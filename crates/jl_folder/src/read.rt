@@ -5,6 +5,7 @@ ghost use Rattle.jl_folder.specs.Calls.{IsOpen, Waits};
 ghost use Rattle.jl_folder.specs.Reading.{ReadsOpen, ReadsFile, file_of, FileWithin, OpenWithin};
 
 use crate::folder::{FileNo, Folder, Opened, ReadAt};
+use jl_text::limits::PIECE_BYTES;
 use jl_text::{Bytes, Path};
 use std::alloc::Global;
 
@@ -24,9 +25,6 @@ pub enum OpenRead {
     Failed,
     NoMemory,
 }
-
-// The longest piece of one call.
-const PIECE: usize = 65536;
 
 // Adds the first k bytes of the buffer, if there is memory.
 fn push_front(bytes: &mut Vec<u8>, buf: &[u8], k: usize) -> bool
@@ -82,7 +80,7 @@ pub fn read_open<F: Folder>(alloc: Global, folder: &mut F, number: FileNo, most:
     ensures frame { FolderAnswers (result ≡ OpenRead.Failed) (F.view folder.old)
         (F.view folder.new) }
 {
-    let size = if most < PIECE { most } else { PIECE };
+    let size = most.min(PIECE_BYTES);
     match vec![in alloc; 0u8; size] {
         Ok(mut buf) => read_pieces(alloc, folder, number, most, buf.as_mut_slice()),
         Err(_) => OpenRead::NoMemory,

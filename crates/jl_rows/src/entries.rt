@@ -10,12 +10,10 @@ use jl_entry::{
 };
 use jl_script::given::{self, RowFault};
 use jl_script::told::{self, Told};
+use jl_text::limits::LAST_MOMENT;
 use jl_text::{Path, is_name};
 use jl_value::{Key, Value, digest};
 use std::alloc::{AllocError, Global};
-
-/// The latest moment, and the longest duration.
-const LATEST: u64 = 4_611_686_018_427_387_904;
 
 pub fn row(alloc: Global, case: &str, given: &[Value]) -> Told {
     match case {
@@ -59,7 +57,7 @@ fn moment(given: &[Value], place: usize) -> Result<u64, RowFault>
     ensures { IfOk result (λ moment. moment ≤ 4611686018427387904) }
 {
     let moment = given::number(given, place)?;
-    if moment > LATEST {
+    if moment > LAST_MOMENT {
         return Err(RowFault::Bad);
     }
     Ok(moment)
